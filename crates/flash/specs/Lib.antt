@@ -1,0 +1,5 @@
+-- What a flash is and promises, in the order in which to read it: faults, states, commands, rules.
+pub mod Faults
+pub mod State
+pub mod Commands
+pub mod Rules

@@ -1,0 +1,28 @@
+-- The flash rules: what a command answers and leaves, for every kind of flash.
+--     Model F                  what a flash of type F says of itself
+--     Obeys model c x r y      a flash in the value x, told c, may answer r and be left as y
+use mathlib.Core.Path.{_≡_}
+use mathlib.Core.Logic.{_⊎_}
+use Prim.Native.Nat.{ℕ}
+use Rattle.std.specs.declared.result.Result.{Result}
+use Rattle.std.specs.declared.result.Result.the-variants.{Ok, Err}
+use Rattle.flash.specs.declared.Rehearsal.{Rehearsal}
+use Rattle.flash.specs.declared.fault.FlashFault.{FlashFault}
+use Rattle.flash.specs.State.{State}
+use Rattle.flash.specs.Commands.{Command, verdict, done, Stopped, loss}
+
+-- its kind number and meaning; and what more a done command, a stopped one and a return of power do to its value than the rules say of its meaning
+pub record Model (F : Type 0) : Type 1 where
+  pub kind : ℕ
+  pub meaning : F → State
+  pub did : Command → F → F → Type 0
+  pub lost : Command → F → F → Type 0
+  pub returned : Rehearsal → F → F → Type 0
+
+-- a command is done; or refused, which leaves the flash's value as it was; or power goes in it, which only one that nothing else refuses allows
+abbrev pub Obeys : {F : Type 0} → Model F → Command → F → Result (Unit {0}) FlashFault → F → Type 0
+Obeys model c x (Ok _) y =
+    (verdict (model .kind) c (model .meaning x) ≡ Ok tt) × (model .meaning y ≡ done c (model .meaning x)) × model .did c x y
+Obeys model c x (Err f) y =
+    ((verdict (model .kind) c (model .meaning x) ≡ Err f) × (y ≡ x))
+    ⊎ ((verdict (model .kind) c (model .meaning x) ≡ Ok tt) × (f ≡ loss (model .kind) c) × Stopped c (model .meaning x) (model .meaning y) × model .lost c x y)

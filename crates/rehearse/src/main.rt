@@ -3,9 +3,9 @@
 use flash::Flash;
 use flash::Rehearsal;
 use flash::fault::FlashFault;
+use formats::image::FormatOfImage;
 use simulated::Image;
-use simulated::SimulatedFlash;
-use simulated::image::FormatOfImage;
+use simulated::run::SimulatedFlash;
 use std::env;
 use std::error::AnyError;
 use std::io;

@@ -5,8 +5,8 @@ use mathlib.Core.List.{List}
 use Prim.Native.Nat.{ℕ, suc, _+_}
 use native.Mathlib.Numerals.{add-one}
 use Rattle.std.specs.declared.option.Option.the-variants.{None}
-use Rattle.simulated.specs.Bytes.{bit}
-use Rattle.simulated.specs.Forms.{Form}
+use Rattle.formats.specs.Bytes.{bit}
+use Rattle.formats.specs.Forms.{Form}
 use Rattle.simulated.specs.Rehearsed.{blanked}
 
 pub blanked-none : (form : Form) (m : List ℕ) (b marks : ℕ) → blanked form m b marks 0 ≡ m

@@ -1,7 +1,3 @@
--- Lemmas: bits of a byte, four-byte numbers, the laws of the two forms, and that a simulated flash keeps the flash rules.
-pub mod Digits
-pub mod Fours
+-- Lemmas: words made blank one by one, and that a simulated flash keeps the flash rules.
 pub mod Blanked
-pub mod ImageLaw
-pub mod CellsLaw
 pub mod Obeyed

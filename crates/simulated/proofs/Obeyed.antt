@@ -18,12 +18,12 @@ use Rattle.flash.specs.State.{State, Memory, Word4, put, wipe, fade, powered}
 use Rattle.flash.specs.Commands.{Command, allowed, unwritten, verdict, done, Stopped, loss}
 use Rattle.flash.specs.Rules.{Obeys}
 use Rattle.simulated.specs.declared.Simulated.{Simulated}
-use Rattle.simulated.specs.Bytes.{bit}
-use Rattle.simulated.specs.Forms.{Form, Lawful, blocks, blocks-of}
+use Rattle.formats.specs.Bytes.{bit}
+use Rattle.formats.specs.Forms.{Form, Lawful, blocks, blocks-of}
 use Rattle.simulated.specs.Rehearsed.{Held, meant, blanked, done-bytes, stopped-bytes, after, broken, answered, leaves, Exact}
 use Rattle.simulated.specs.Flashes.{held, simulation}
 use Rattle.simulated.proofs.Blanked.{blanked-none, blanked-suc}
-use Rattle.simulated.proofs.Digits.{all-at}
+use Rattle.formats.proofs.Digits.{all-at}
 
 -- equal words make equal states
 same-state : (n : ℕ) (p : Bool) (f g : Memory) → ((b w : ℕ) → f b w ≡ g b w) → _≡_ {A = State} (record { count = n; power = p; word = f }) (record { count = n; power = p; word = g })
@@ -146,4 +146,4 @@ module _ (form : Form) (law : Lawful form) where
               let p′ : r ≡ Err (loss (form .kind) c) = p ∙ cond-false _ _ _ t in
               let q′ : held y ≡ broken form c (held x) = q ∙ cond-false _ _ _ t in
               let z : x .rehearsal .commands ≡ 0 = omega (arith, ltb-false) in
-              rw p′ (inr (e, refl, subst (Stopped c (meant form (held x))) (sym (ap (meant form) q′)) (meant-stopped c (held x) f e), (z, q′)))
+              rw p′ (inr (refl, (e, subst (Stopped c (meant form (held x))) (sym (ap (meant form) q′)) (meant-stopped c (held x) f e), (z, q′))))

@@ -2,13 +2,12 @@
 --     held x             its bytes, power and rehearsal numbers
 --     simulation form    its kind number and meaning, and to the byte what commands and a return of power do
 use mathlib.Core.Path.{_≡_}
-use mathlib.Core.Bool.{true}
 use Prim.Native.Nat.{_<_}
 use Rattle.std.specs.Of.Vec.{vec-items}
 use Rattle.flash.specs.Rules.{Model}
 use Rattle.simulated.specs.declared.Simulated.{Simulated}
-use Rattle.simulated.specs.Forms.{Form}
-use Rattle.simulated.specs.Rehearsed.{Held, meant, after, broken}
+use Rattle.formats.specs.Forms.{Form}
+use Rattle.simulated.specs.Rehearsed.{Held, meant, after, broken, resumed}
 
 abbrev pub held : {F : Type 0} → Simulated F → Held
 held x = record { bytes = vec-items (x .memory); power = x .power; rehearsal = x .rehearsal }
@@ -20,5 +19,5 @@ simulation form = record {
   meaning = λ x. meant form (held x);
   did = λ c x y. (0 < held x .rehearsal .commands) × (held y ≡ after form c (held x));
   lost = λ c x y. (held x .rehearsal .commands ≡ 0) × (held y ≡ broken form c (held x));
-  returned = λ rehearsal x y. held y ≡ record { bytes = held x .bytes; power = true; rehearsal = rehearsal };
+  returned = λ rehearsal x y. held y ≡ resumed rehearsal (held x);
 }

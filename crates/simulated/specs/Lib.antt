@@ -1,7 +1,3 @@
--- The simulated flashes, in the order in which to read them: bytes, forms, the two forms, what a flash over one of them does.
-pub mod Bytes
-pub mod Forms
-pub mod Image
-pub mod Cells
+-- What a simulated flash is, in the order in which to read it: what it holds and does, and what it says of itself.
 pub mod Rehearsed
 pub mod Flashes

@@ -19,13 +19,21 @@ use Rattle.flash.specs.declared.fault.Cause.the-variants.{Making}
 use Rattle.flash.specs.Faults.{fault}
 use Rattle.flash.specs.State.{State}
 use Rattle.flash.specs.Commands.{Command, verdict, loss}
-use Rattle.simulated.specs.Bytes.{bit}
-use Rattle.simulated.specs.Forms.{Form, blocks, blocks-of}
+use Rattle.formats.specs.Bytes.{bit}
+use Rattle.formats.specs.Forms.{Form, blocks, blocks-of}
 
 pub record Held : Type 0 where
   pub bytes : List ℕ
   pub power : Bool
   pub rehearsal : Rehearsal
+
+-- a new flash: power on, and all but no end of commands before it goes
+abbrev pub fresh : List ℕ → Held
+fresh m = record { bytes = m; power = true; rehearsal = record { commands = 4294967295; manner = 0 } }
+
+-- after the return of power
+abbrev pub resumed : Rehearsal → Held → Held
+resumed rehearsal h = record { bytes = h .bytes; power = true; rehearsal = rehearsal }
 
 -- other bytes, and all else as before
 abbrev pub with-bytes : List ℕ → Held → Held
@@ -55,17 +63,20 @@ stopped-bytes form manner (Command.program b w v) m =
     cond (eqb manner 0) m (form .put-word m b w (Some (cond (eqb manner 1) v manner)))
 stopped-bytes form manner (Command.erase b) m = blanked form m b manner 16
 
--- one command fewer is left
-abbrev pub after : Form → Command → Held → Held
-after form c h = record {
-  bytes = done-bytes form c (h .bytes);
-  power = h .power;
-  rehearsal = record { commands = h .rehearsal .commands - 1; manner = h .rehearsal .manner };
-}
+-- one rehearsed command fewer is left
+abbrev pub taken : Held → Held
+taken h = record { bytes = h .bytes; power = h .power; rehearsal = record { commands = h .rehearsal .commands - 1; manner = h .rehearsal .manner } }
 
--- power is off
+-- power went
+abbrev pub off : Held → Held
+off h = record { bytes = h .bytes; power = false; rehearsal = h .rehearsal }
+
+-- what a done command leaves, and what a stopped one leaves
+abbrev pub after : Form → Command → Held → Held
+after form c h = with-bytes (done-bytes form c (h .bytes)) (taken h)
+
 abbrev pub broken : Form → Command → Held → Held
-broken form c h = record { bytes = stopped-bytes form (h .rehearsal .manner) c (h .bytes); power = false; rehearsal = h .rehearsal }
+broken form c h = with-bytes (stopped-bytes form (h .rehearsal .manner) c (h .bytes)) (off h)
 
 -- the answer and what is left, by the verdict of the flash rules: with rehearsed commands left the command is done, with none left power goes in it
 abbrev pub answered : Form → Command → Held → Result (Unit {0}) FlashFault → Result (Unit {0}) FlashFault

@@ -1,5 +1,7 @@
 -- The two commands of a flash: when one is refused, what it does when it is done, and what it may leave when power goes in it.
 --     Command            a program of a word, or an erase of a block
+--     block-of, word-of  the place of a command
+--     reached k s b w    whether a flash of kind k in state s refuses the place
 --     looked k s b w     what a look answers
 --     verdict k c s      whether a flash of kind k in state s refuses c, and with which fault
 --     done c s           the state after c
@@ -23,10 +25,23 @@ pub data Command : Type 0 where
   program : ℕ → ℕ → ℕ → Command
   erase : ℕ → Command
 
+-- the place of a command; an erase has no word, and word 0 stands for it
+abbrev pub block-of : Command → ℕ
+block-of (program b w v) = b
+block-of (erase b) = b
+
+abbrev pub word-of : Command → ℕ
+word-of (program b w v) = w
+word-of (erase b) = 0
+
 -- the refusals that look, program and erase share, in their order: power, block, word; then what is left to say
 abbrev pub allowed : {X : Type 0} → ℕ → State → ℕ → ℕ → Result X FlashFault → Result X FlashFault
 allowed k s b w rest =
     cond (s .power) (cond (ltb b (s .count)) (cond (ltb w 16) rest (Err (fault Word k b w))) (Err (fault Block k b w))) (Err (unpowered k))
+
+-- whether a place is refused
+abbrev pub reached : ℕ → State → ℕ → ℕ → Result (Unit {0}) FlashFault
+reached k s b w = allowed k s b w (Ok tt)
 
 -- a look answers what the word holds
 abbrev pub looked : ℕ → State → ℕ → ℕ → Result (Option ℕ) FlashFault
@@ -37,10 +52,9 @@ abbrev pub unwritten : ℕ → ℕ → ℕ → Option ℕ → Result (Unit {0}) 
 unwritten k b w None = Ok tt
 unwritten k b w (Some v) = Err (fault Written k b w)
 
--- an erase has no word: its place is word 0
 abbrev pub verdict : ℕ → Command → State → Result (Unit {0}) FlashFault
 verdict k (program b w v) s = allowed k s b w (unwritten k b w (s .word b w))
-verdict k (erase b) s = allowed k s b 0 (Ok tt)
+verdict k (erase b) s = reached k s b 0
 
 -- a program writes its word; an erase makes its block blank
 abbrev pub applied : Command → Memory → Memory
@@ -56,7 +70,6 @@ abbrev pub Stopped : Command → State → State → Type 0
 Stopped (program b w v) s t = (left : Option ℕ) × Word4 left × (t ≡ powered false s (put (s .word) b w left))
 Stopped (erase b) s t = (marked : ℕ → Bool) × (t ≡ powered false s (fade (s .word) b marked))
 
--- the place of a command in which power went
+-- the fault of a command in which power went has the command's place
 abbrev pub loss : ℕ → Command → FlashFault
-loss k (program b w v) = fault Power k b w
-loss k (erase b) = fault Power k b 0
+loss k c = fault Power k (block-of c) (word-of c)

@@ -4,7 +4,10 @@
 --     fault c k b w      the fault of a flash of kind k, at word w of block b
 --     unpowered k        the fault where power was found off: it has no place
 --     seen f             what a caller sees of a flash's fault
+--     raised k b w r     the answer r of a flash, as one of a flash of kind k that stands over it
 use Prim.Native.Nat.{ℕ}
+use Rattle.std.specs.declared.result.Result.{Result}
+use Rattle.std.specs.declared.result.Result.the-variants.{Ok, Err}
 use Rattle.flash.specs.declared.BlockNumber.{BlockNumber}
 use Rattle.flash.specs.declared.fault.Cause.{Cause}
 use Rattle.flash.specs.declared.fault.Cause.the-variants.{Power, Block, Word, Written, Making}
@@ -38,3 +41,8 @@ unpowered k = fault Power k 0 0
 -- its number, the layer of flashes, its kind number and its place
 abbrev pub seen : FlashFault → Report
 seen f = record { number = cause-number (f .cause); layer = Flash; kind = f .kind; block = f .block; word = f .word }
+
+-- a fault of the flash below has the cause that it had there, and the kind number and the place of the flash above
+abbrev pub raised : {X : Type 0} → ℕ → ℕ → ℕ → Result X FlashFault → Result X FlashFault
+raised k b w (Ok x) = Ok x
+raised k b w (Err f) = Err (fault (f .cause) k b w)

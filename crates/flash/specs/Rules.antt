@@ -2,6 +2,7 @@
 --     Model F                  what a flash of type F says of itself
 --     Done, Lost, Refused      the three things that can become of a command
 --     Obeys model c x r y      a flash in the value x, told c, may answer r and be left as y
+--     Returned model n x y     a return of power with the rehearsal n leaves y
 use mathlib.Core.Path.{_≡_}
 use mathlib.Core.Logic.{_⊎_}
 use Prim.Native.Nat.{ℕ}
@@ -9,7 +10,7 @@ use Rattle.std.specs.declared.result.Result.{Result}
 use Rattle.std.specs.declared.result.Result.the-variants.{Ok, Err}
 use Rattle.flash.specs.declared.Rehearsal.{Rehearsal}
 use Rattle.flash.specs.declared.fault.FlashFault.{FlashFault}
-use Rattle.flash.specs.State.{State}
+use Rattle.flash.specs.State.{State, restored}
 use Rattle.flash.specs.Commands.{Command, verdict, done, Stopped, loss}
 
 -- its kind number and meaning; and what more a done command, a stopped one and a return of power do to its value than the rules say of its meaning
@@ -38,3 +39,7 @@ Refused model c x f y = (verdict (model .kind) c (model .meaning x) ≡ Err f) �
 abbrev pub Obeys : {F : Type 0} → Model F → Command → F → Result (Unit {0}) FlashFault → F → Type 0
 Obeys model c x (Ok _) y = Done model c x y
 Obeys model c x (Err f) y = Refused model c x f y ⊎ ((f ≡ loss (model .kind) c) × Lost model c x y)
+
+-- power returns: no word changes
+abbrev pub Returned : {F : Type 0} → Model F → Rehearsal → F → F → Type 0
+Returned model rehearsal x y = (model .meaning y ≡ restored (model .meaning x)) × model .returned rehearsal x y

@@ -1,6 +1,6 @@
 //! Faults of a flash: why it refused, which kind of flash it was, and where; and what a caller sees of a fault of any layer.
 ghost use mathlib.Core.Path.{_≡_};
-ghost use Rattle.flash.specs.Faults.{cause-number, layer-number, seen};
+ghost use Rattle.flash.specs.Faults.{cause-number, layer-number, seen, raised};
 use crate::BlockNumber;
 use crate::BlockNumberDebug;
 use crate::BlockNumberPartialEq;
@@ -79,5 +79,25 @@ impl FlashFault {
             block: self.block,
             word: self.word,
         }
+    }
+}
+
+/// The answer of a flash, as one of a flash that stands over it: a fault has the kind number and the place of the one above.
+pub fn raise<T>(
+    answer: Result<T, FlashFault>,
+    kind: u8,
+    block: BlockNumber,
+    word: u8,
+) -> Result<T, FlashFault>
+    ensures { λ r. ⌜ r ≡ raised kind (block .0) word answer ⌝ }
+{
+    match answer {
+        Ok(value) => Ok(value),
+        Err(fault) => Err(FlashFault {
+            cause: fault.cause,
+            kind,
+            block,
+            word,
+        }),
     }
 }

@@ -1,9 +1,9 @@
 //! A flash: blocks of 16 words that are programmed one by one and erased block by block, and that may lose power inside a command.
 //! The trait `Flash` has the flash rules as its contracts; specs/Rules.antt states them.
 ghost use mathlib.Core.Path.{_≡_};
-ghost use Rattle.flash.specs.State.{Shaped, restored};
+ghost use Rattle.flash.specs.State.{Shaped};
 ghost use Rattle.flash.specs.Commands.{Command, looked};
-ghost use Rattle.flash.specs.Rules.{Model, Obeys};
+ghost use Rattle.flash.specs.Rules.{Model, Obeys, Returned};
 use fault::FlashFault;
 
 pub mod fault;
@@ -55,6 +55,5 @@ pub trait Flash {
 
     /// The return of power.
     fn restore(&mut self, rehearsal: Rehearsal)
-        ensures words { λ _. ⌜ model .meaning (now (self .exit)) ≡ restored (model .meaning (now (self .entry))) ⌝ }
-        ensures more { λ _. ⌜ model .returned rehearsal (now (self .entry)) (now (self .exit)) ⌝ };
+        ensures { λ _. ⌜ Returned model rehearsal (now (self .entry)) (now (self .exit)) ⌝ };
 }

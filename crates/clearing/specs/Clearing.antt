@@ -1,0 +1,24 @@
+-- The commands that make a block free. Words 14 and 15 of a block are its erase marks: erase start and erase end.
+--     mark               the four bytes AA of a mark
+--     mending v b        erase block b, and program v as its erase end
+--     clearing v b m     the same, with erase start programmed first if the words m have it blank
+use mathlib.Core.List.{List, [], _∷_, _++_}
+use Prim.Native.Nat.{ℕ}
+use Rattle.std.specs.declared.option.Option.{Option}
+use Rattle.std.specs.declared.option.Option.the-variants.{Some, None}
+use Rattle.flash.specs.State.{Memory}
+use Rattle.flash.specs.Commands.{Command, program, erase}
+
+abbrev pub mark : ℕ
+mark = 0xAAAA_AAAA
+
+abbrev pub mending : ℕ → ℕ → List Command
+mending v b = erase b ∷ (program b 15 v ∷ [])
+
+-- erase start is programmed only where it is blank
+abbrev pub starting : ℕ → Option ℕ → List Command
+starting b None = program b 14 mark ∷ []
+starting b (Some _) = []
+
+abbrev pub clearing : ℕ → ℕ → Memory → List Command
+clearing v b m = starting b (m b 14) ++ mending v b

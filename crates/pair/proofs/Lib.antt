@@ -1,0 +1,2 @@
+-- Lemmas: what a command of either flash is to the pair.
+pub mod Seen

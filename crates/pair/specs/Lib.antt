@@ -1,0 +1,2 @@
+-- What a pair of flashes is.
+pub mod Pairs

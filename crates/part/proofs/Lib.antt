@@ -1,0 +1,2 @@
+-- Lemmas: what a stopped command below is to the part above.
+pub mod Seen

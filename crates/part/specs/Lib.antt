@@ -1,0 +1,2 @@
+-- What a part of a flash is.
+pub mod Parts

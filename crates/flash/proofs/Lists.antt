@@ -1,21 +1,18 @@
 -- The laws of lists of commands: joining two, what the meanings do, what other blocks keep, and that a list of which nothing is refused is done or cut off.
 use mathlib.Core.Path.{_≡_, refl, sym, ap, subst, _∙_}
 use mathlib.Core.List.{List, [], _∷_, _++_}
-use mathlib.Core.Bool.{Bool, true, false, cond, _&&_}
-use mathlib.Core.Logic.{_⊎_, inl, inr}
-use Prim.Native.Nat.{ℕ, _<_}
+use mathlib.Core.Bool.{true, false}
+use mathlib.Core.Logic.{inl, inr}
+use Prim.Native.Nat.{ℕ}
 use native.Mathlib.Omega.{arith}
 use lib.Dec.{eqb, ltb}
 use Rattle.std.proofs.shelf.Tests.{ne-eqb, lt-ltb}
-use Rattle.std.proofs.shelf.Ways.{tells}
-use Rattle.std.specs.declared.option.Option.{Option}
-use Rattle.std.specs.declared.option.Option.the-variants.{Some, None}
 use Rattle.std.specs.declared.result.Result.{Result}
 use Rattle.std.specs.declared.result.Result.the-variants.{Ok, Err}
 use Rattle.flash.specs.declared.fault.FlashFault.{FlashFault}
-use Rattle.flash.specs.State.{State, Memory, put, wipe, fade, powered}
-use Rattle.flash.specs.Commands.{Command, program, erase, block-of, allowed, unwritten, verdict, applied, done, Stopped, loss}
-use Rattle.flash.specs.Rules.{Model, Done, Lost, Refused, Obeys}
+use Rattle.flash.specs.State.{State, Memory}
+use Rattle.flash.specs.Commands.{Command, program, erase, block-of, verdict, applied, done, Stopped}
+use Rattle.flash.specs.Rules.{Model}
 use Rattle.flash.specs.Lists.{Through, Cut, Given, applied-all, all-done, Interrupted, Ran, Tried, Takes, Taken, Spares}
 
 ok≢err : {x : Unit {0}} {f : FlashFault} → _≡_ {A = Result (Unit {0}) FlashFault} (Ok x) (Err f) → ⊥

@@ -8,7 +8,6 @@
 use Prim.Native.Nat.{ℕ}
 use Rattle.std.specs.declared.result.Result.{Result}
 use Rattle.std.specs.declared.result.Result.the-variants.{Ok, Err}
-use Rattle.flash.specs.declared.BlockNumber.{BlockNumber}
 use Rattle.flash.specs.declared.fault.Cause.{Cause}
 use Rattle.flash.specs.declared.fault.Cause.the-variants.{Power, Block, Word, Written, Making}
 use Rattle.flash.specs.declared.fault.Layer.{Layer}

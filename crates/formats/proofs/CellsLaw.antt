@@ -1,9 +1,9 @@
 -- The law of cells: a word that was put is read again, and no other word changes.
 use mathlib.Core.Path.{_≡_, refl, ap, _∙_}
-use mathlib.Core.Bool.{Bool, true, false, cond, _&&_}
+use mathlib.Core.Bool.{true, false, cond, _&&_}
 use mathlib.Core.List.{List}
 use mathlib.Core.Logic.{_⊎_, inl, inr, _≢_}
-use Prim.Native.Nat.{ℕ, _+_, _*_, _/_, _%_, _^_, _≤_, _<_}
+use Prim.Native.Nat.{ℕ, _+_, _*_, _^_, _≤_, _<_}
 use native.Mathlib.Omega.{arith}
 use lib.Dec.{eqb, ltb, lit<}
 use lib.ListN.{length, getD, set}
@@ -13,7 +13,7 @@ use Rattle.std.proofs.shelf.Lists.{getD-set-same, getD-set-other, length-set}
 use Rattle.std.specs.declared.option.Option.{Option}
 use Rattle.std.specs.declared.option.Option.the-variants.{Some, None}
 use Rattle.flash.specs.State.{Word4, put}
-use Rattle.formats.specs.Bytes.{four, put-four}
+use Rattle.formats.specs.Bytes.{four}
 use Rattle.formats.specs.Forms.{Lawful, blocks-of}
 use Rattle.formats.specs.Cells.{cells-blocks, cell-at, cells-word, filled, cells-put, cells}
 use Rattle.formats.proofs.Fours.{four-keeps, four-other, four-same, apart}

@@ -2,8 +2,8 @@
 use mathlib.Core.Path.{_≡_, refl, ap, _∙_}
 use mathlib.Core.Bool.{Bool, true, false, cond, _&&_}
 use mathlib.Core.List.{List}
-use mathlib.Core.Logic.{_⊎_, inl, inr, _≢_}
-use Prim.Native.Nat.{ℕ, _+_, _*_, _/_, _%_, _^_, _≤_, _<_}
+use mathlib.Core.Logic.{inl, inr, _≢_}
+use Prim.Native.Nat.{ℕ, _+_, _*_, _%_, _^_, _≤_, _<_}
 use native.Mathlib.Omega.{arith}
 use lib.Dec.{eqb, ltb, lit<}
 use lib.ListN.{length, getD}
@@ -15,9 +15,9 @@ use Rattle.std.specs.declared.option.Option.the-variants.{Some, None}
 use Rattle.flash.specs.State.{Word4, put}
 use Rattle.formats.specs.Bytes.{bit, four, put-four, put-bit}
 use Rattle.formats.specs.Forms.{Lawful, blocks-of}
-use Rattle.formats.specs.Image.{image-blocks, word-at, mark-at, written, image-word, placed, image-put, image}
+use Rattle.formats.specs.Image.{image-blocks, word-at, mark-at, image-word, placed, image-put, image}
 use Rattle.formats.proofs.Digits.{bit-put}
-use Rattle.formats.proofs.Fours.{length-four, four-keeps, four-other, four-same, four-agrees, apart}
+use Rattle.formats.proofs.Fours.{length-four, four-keeps, four-other, four-same, apart}
 
 blocks-fit : (len : ℕ) → 66 * blocks-of 66 len ≤ len
 blocks-fit len = grind (arith, tells)

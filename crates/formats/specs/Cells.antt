@@ -1,6 +1,6 @@
 -- Kind 2, cells: five bytes a word, the first FF for blank and anything else for written, then the four bytes.
 --     cells              the form of cells
-use mathlib.Core.Bool.{Bool, true, false, cond, _&&_}
+use mathlib.Core.Bool.{cond, _&&_}
 use mathlib.Core.List.{List}
 use Prim.Native.Nat.{ℕ, _+_, _*_}
 use lib.Dec.{ltb, eqb}

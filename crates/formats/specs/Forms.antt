@@ -4,7 +4,7 @@
 --     blocks form m        how many blocks a memory holds
 --     Lawful form          a word that was put is read again, and no other word changes
 use mathlib.Core.Path.{_≡_}
-use mathlib.Core.Bool.{Bool, false, cond, _&&_}
+use mathlib.Core.Bool.{false, cond, _&&_}
 use mathlib.Core.List.{List}
 use Prim.Native.Nat.{ℕ, _/_, _%_, _<_}
 use lib.Dec.{eqb, ltb, leb}

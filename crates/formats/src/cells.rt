@@ -1,5 +1,4 @@
 //! Kind 2, cells: five bytes a word, of which the first says whether it is written.
-ghost use mathlib.Core.Path.{_≡_};
 ghost use Rattle.formats.specs.Cells.{cells};
 use crate::bytes;
 use crate::format::Format;

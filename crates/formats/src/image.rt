@@ -1,5 +1,4 @@
 //! Kind 1, an image: the 64 bytes of every block, then two bytes a block with a bit for each word that is written.
-ghost use mathlib.Core.Path.{_≡_};
 ghost use Rattle.formats.specs.Image.{image};
 use crate::bytes;
 use crate::format::Format;

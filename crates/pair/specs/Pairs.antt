@@ -1,6 +1,7 @@
 -- Kind 4, a pair: the blocks of one flash followed by those of another, with power when both have it.
 --     pair-count s t         how many blocks the pair has; none where there would be more than 256
 --     pair-state s t         what the pair means, over flashes that mean s and t
+--     side n b               the flash that has a block of the pair, and which of its blocks that is
 --     lowered n c            the command to the second flash, behind n blocks of the first
 --     Sided n P Q c x y      a command did P to the first flash or Q to the second, and nothing to the other
 --     joined first second    what a pair says of itself
@@ -20,6 +21,8 @@ use Rattle.flash.specs.State.{State}
 use Rattle.flash.specs.Commands.{Command, program, erase, block-of}
 use Rattle.flash.specs.Rules.{Model, Done, Lost, Returned}
 use Rattle.pair.specs.declared.Pair.{Pair}
+use Rattle.pair.specs.declared.Side.{Side}
+use Rattle.pair.specs.declared.Side.the-variants.{First, Second}
 
 abbrev pub pair-count : State → State → ℕ
 pair-count s t = cond (leb (s .count + t .count) 256) (s .count + t .count) 0
@@ -31,6 +34,10 @@ pair-state s t = record {
   power = s .power && t .power;
   word = λ b w. cond (ltb b (pair-count s t)) (cond (ltb b (s .count)) (s .word b w) (t .word (b - s .count) w)) None;
 }
+
+-- which flash has block b, behind n blocks of the first, and which of its blocks that is
+abbrev pub side : ℕ → ℕ → Side
+side n b = cond (ltb b n) (First (record { 0 = b })) (Second (record { 0 = b - n }))
 
 abbrev pub lowered : ℕ → Command → Command
 lowered n (program b w v) = program (b - n) w v

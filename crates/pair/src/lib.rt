@@ -3,8 +3,8 @@ ghost use mathlib.Core.Path.{_≡_};
 ghost use Rattle.std.specs.declared.result.Result.the-variants.{Ok, Err};
 ghost use Rattle.flash.specs.Faults.{fault};
 ghost use Rattle.flash.specs.State.{Shaped};
-ghost use Rattle.flash.specs.Commands.{reached};
-ghost use Rattle.pair.specs.Pairs.{pair-count, pair-state, joined, pair-check};
+ghost use Rattle.flash.specs.Commands.{allowed};
+ghost use Rattle.pair.specs.Pairs.{pair-count, pair-state, side, joined, pair-check};
 use flash::BlockNumber;
 use flash::Flash;
 use flash::Rehearsal;
@@ -19,6 +19,13 @@ const PAIR: u8 = 4;
 pub struct Pair<A, B> {
     first: A,
     second: B,
+}
+
+// A block of the first flash or of the second.
+#[derive(Clone, Copy)]
+enum Side {
+    First(BlockNumber),
+    Second(BlockNumber),
 }
 
 impl<A: Flash, B: Flash> Pair<A, B> {
@@ -55,9 +62,9 @@ impl<A: Flash, B: Flash> Pair<A, B> {
         if blocks > 256 { 0 } else { blocks }
     }
 
-    // Whether the place is refused.
-    fn admit(&self, block: BlockNumber, word: u8) -> Result<(), FlashFault>
-        ensures { λ r. ⌜ r ≡ reached 4 (pair-state (A·Flash .model .meaning (now (self .entry) .first)) (B·Flash .model .meaning (now (self .entry) .second))) (block .0) word ⌝ }
+    // The flash and the block of it, unless the place is refused.
+    fn admit(&self, block: BlockNumber, word: u8) -> Result<Side, FlashFault>
+        ensures { λ r. ⌜ r ≡ allowed 4 (pair-state (A·Flash .model .meaning (now (self .entry) .first)) (B·Flash .model .meaning (now (self .entry) .second))) (block .0) word (Ok (side (A·Flash .model .meaning (now (self .entry) .first) .count) (block .0))) ⌝ }
     {
         if !self.first.has_power() || !self.second.has_power() {
             return Err(refusal(Cause::Power, BlockNumber(0), 0));
@@ -68,7 +75,11 @@ impl<A: Flash, B: Flash> Pair<A, B> {
         if word > 15 {
             return Err(refusal(Cause::Word, block, word));
         }
-        Ok(())
+        let border = self.first.block_count();
+        if block.0 < border {
+            return Ok(Side::First(block));
+        }
+        Ok(Side::Second(BlockNumber(block.0 - border)))
     }
 }
 
@@ -102,46 +113,25 @@ pub impl<A: Flash, B: Flash> Flash for Pair<A, B> as PairFlash {
     }
 
     fn look(&self, block: BlockNumber, word: u8) -> Result<Option<u32>, FlashFault> {
-        self.admit(block, word)?;
-        let border = self.first.block_count();
-        if block.0 < border {
-            return raise(self.first.look(block, word), PAIR, block, word);
-        }
-        raise(
-            self.second.look(BlockNumber(block.0 - border), word),
-            PAIR,
-            block,
-            word,
-        )
+        let found = match self.admit(block, word)? {
+            Side::First(at) => self.first.look(at, word),
+            Side::Second(at) => self.second.look(at, word),
+        };
+        raise(found, PAIR, block, word)
     }
 
     fn program(&mut self, block: BlockNumber, word: u8, value: u32) -> Result<(), FlashFault> {
-        self.admit(block, word)?;
-        let border = self.first.block_count();
-        if block.0 < border {
-            return raise(self.first.program(block, word, value), PAIR, block, word);
+        match self.admit(block, word)? {
+            Side::First(at) => raise(self.first.program(at, word, value), PAIR, block, word),
+            Side::Second(at) => raise(self.second.program(at, word, value), PAIR, block, word),
         }
-        raise(
-            self.second
-                .program(BlockNumber(block.0 - border), word, value),
-            PAIR,
-            block,
-            word,
-        )
     }
 
     fn erase(&mut self, block: BlockNumber) -> Result<(), FlashFault> {
-        self.admit(block, 0)?;
-        let border = self.first.block_count();
-        if block.0 < border {
-            return raise(self.first.erase(block), PAIR, block, 0);
+        match self.admit(block, 0)? {
+            Side::First(at) => raise(self.first.erase(at), PAIR, block, 0),
+            Side::Second(at) => raise(self.second.erase(at), PAIR, block, 0),
         }
-        raise(
-            self.second.erase(BlockNumber(block.0 - border)),
-            PAIR,
-            block,
-            0,
-        )
     }
 
     fn restore(&mut self, rehearsal: Rehearsal) {

@@ -15,7 +15,7 @@ use Rattle.std.specs.declared.result.Result.the-variants.{Ok, Err}
 use Rattle.flash.specs.declared.fault.Cause.the-variants.{Making}
 use Rattle.flash.specs.declared.fault.FlashFault.{FlashFault}
 use Rattle.flash.specs.Faults.{fault}
-use Rattle.flash.specs.State.{State, restored}
+use Rattle.flash.specs.State.{State}
 use Rattle.flash.specs.Commands.{Command, program, erase}
 use Rattle.flash.specs.Rules.{Model, Done, Lost, Returned}
 use Rattle.part.specs.declared.Part.{Part}

@@ -1,6 +1,6 @@
 //! Kind 3, a part: some blocks of any flash, one after the other, as a flash of their own.
 ghost use mathlib.Core.Path.{_≡_};
-ghost use Prim.Native.Nat.{_+_, _≤_};
+ghost use Prim.Native.Nat.{_+_};
 ghost use Rattle.std.specs.declared.result.Result.the-variants.{Ok, Err};
 ghost use Rattle.flash.specs.Faults.{fault};
 ghost use Rattle.flash.specs.State.{Shaped};

@@ -36,13 +36,18 @@ fn read(given: Option<u32>, found: Option<u32>) -> Reading
 }
 
 // Prints a row of 16 readings; a word that cannot be looked at shows as a question mark.
-fn print_row<F: Flash>(rt: &LibcRuntime, flash: &F, block: BlockNumber) -> io::Result<()> {
+fn print_row<F: Flash>(
+    rt: &LibcRuntime,
+    flash: &F,
+    home: BlockNumber,
+    block: BlockNumber,
+) -> io::Result<()> {
     let number = block.0;
     print!(rt, "  block {number}  ")?;
     for w in 0..16u8 {
         match flash.look(block, w) {
             Ok(found) => {
-                let reading = read(note::given(block, w), found);
+                let reading = read(note::given(home, block, w), found);
                 print!(rt, "{reading}")?;
             }
             Err(_) => print!(rt, "?")?,
@@ -51,10 +56,10 @@ fn print_row<F: Flash>(rt: &LibcRuntime, flash: &F, block: BlockNumber) -> io::R
     println!(rt, "")
 }
 
-/// Prints a row for each block.
-pub fn print_all<F: Flash>(rt: &LibcRuntime, flash: &F) -> io::Result<()> {
+/// Prints a row for each block, where the note is kept in block `home`.
+pub fn print_all<F: Flash>(rt: &LibcRuntime, flash: &F, home: BlockNumber) -> io::Result<()> {
     for b in 0..flash.block_count() {
-        print_row(rt, flash, BlockNumber(b))?;
+        print_row(rt, flash, home, BlockNumber(b))?;
     }
     Ok(())
 }

@@ -1,5 +1,5 @@
 -- A simulated flash that does exactly what its rehearsal says keeps the flash rules.
-use mathlib.Core.Path.{_≡_, refl, sym, ap, subst, fun-ext, _∙_}
+use mathlib.Core.Path.{_≡_, refl, sym, ap, subst, _∙_}
 use mathlib.Core.Bool.{Bool, true, false, cond, _&&_}
 use mathlib.Core.List.{List}
 use mathlib.Core.Logic.{_⊎_, inl, inr}
@@ -15,24 +15,16 @@ use Rattle.std.specs.declared.result.Result.{Result}
 use Rattle.std.specs.declared.result.Result.the-variants.{Ok, Err}
 use Rattle.flash.specs.declared.fault.FlashFault.{FlashFault}
 use Rattle.flash.specs.State.{State, Memory, Word4, put, wipe, fade, powered}
-use Rattle.flash.specs.Commands.{Command, allowed, unwritten, verdict, done, Stopped, loss}
+use Rattle.flash.specs.Commands.{Command, unwritten, verdict, done, Stopped, loss}
 use Rattle.flash.specs.Rules.{Obeys}
+use Rattle.flash.proofs.Carried.{same-state, allowed-ok}
 use Rattle.simulated.specs.declared.Simulated.{Simulated}
 use Rattle.formats.specs.Bytes.{bit}
 use Rattle.formats.specs.Forms.{Form, Lawful, blocks, blocks-of}
-use Rattle.simulated.specs.Rehearsed.{Held, meant, blanked, done-bytes, stopped-bytes, after, broken, answered, leaves, Exact}
+use Rattle.simulated.specs.Rehearsed.{Held, meant, blanked, after, broken, answered, leaves, Exact}
 use Rattle.simulated.specs.Flashes.{held, simulation}
 use Rattle.simulated.proofs.Blanked.{blanked-none, blanked-suc}
 use Rattle.formats.proofs.Digits.{all-at}
-
--- equal words make equal states
-same-state : (n : ℕ) (p : Bool) (f g : Memory) → ((b w : ℕ) → f b w ≡ g b w) → _≡_ {A = State} (record { count = n; power = p; word = f }) (record { count = n; power = p; word = g })
-same-state n p f g h = λ i. record { count = n; power = p; word = λ b w. h b w i }
-
--- what lies behind a place that is not refused
-allowed-ok : {X : Type 0} (k : ℕ) (s : State) (b w : ℕ) (rest : Result X FlashFault) (x : X) → allowed k s b w rest ≡ Ok x
-    → (b < s .count) × (w < 16) × (rest ≡ Ok x)
-allowed-ok k s b w rest x h = (grind (arith, tells), grind (arith, tells), grind (arith, tells))
 
 unwritten-blank : (k b w : ℕ) (o : Option ℕ) → unwritten k b w o ≡ Ok tt → o ≡ None
 unwritten-blank k b w None h = refl
@@ -59,7 +51,7 @@ module _ (form : Form) (law : Lawful form) where
       → state p (form .put-word m b w v) ≡ powered p (state p m) (put (form .word m) b w v)
   state-put m b w v p hb hw h4 =
       ap (λ l. record { count = blocks-of (form .size) l; power = p; word = form .word (form .put-word m b w v) }) (law .keeps m b w v)
-      ∙ same-state (blocks form m) p _ _ (law .reads m b w v hb hw h4)
+      ∙ same-state _ _ refl refl (law .reads m b w v hb hw h4)
 
   length-blanked : (m : List ℕ) (b marks k : ℕ) → length (blanked form m b marks k) ≡ length m
   length-blanked m b marks zero = ap length (blanked-none form m b marks)
@@ -88,7 +80,7 @@ module _ (form : Form) (law : Lawful form) where
       → state p (blanked form m b marks 16) ≡ powered p (state p m) words
   state-blanked m b marks words p hb h =
       ap (λ l. record { count = blocks-of (form .size) l; power = p; word = form .word (blanked form m b marks 16) }) (length-blanked m b marks 16)
-      ∙ same-state (blocks form m) p _ _ (λ c x. word-blanked m b marks 16 hb (omega arith) c x ∙ h c x)
+      ∙ same-state _ _ refl refl (λ c x. word-blanked m b marks 16 hb (omega arith) c x ∙ h c x)
 
   -- all 16 bits of FFFF are 1, and no word stands above 15
   all-faded : (m : List ℕ) (b : ℕ) → b < blocks form m → (c x : ℕ) → fade (form .word m) b (below (bit 0xFFFF) 16) c x ≡ wipe (form .word m) b c x
@@ -106,10 +98,10 @@ module _ (form : Form) (law : Lawful form) where
   meant-done : (c : Command) (h : Held) → Fits4 c (h .rehearsal .manner) → verdict (form .kind) c (meant form h) ≡ Ok tt → meant form (after form c h) ≡ done c (meant form h)
   meant-done (Command.program b w v) h f e =
       let a = allowed-ok (form .kind) (meant form h) b w (unwritten (form .kind) b w (form .word (h .bytes) b w)) tt e in
-      state-put (h .bytes) b w (Some v) (h .power) (a .0) (a .1) (f .0)
+      state-put (h .bytes) b w (Some v) (h .power) (a .1) (a .2) (f .0)
   meant-done (Command.erase b) h f e =
       let a = allowed-ok (form .kind) (meant form h) b 0 (Ok tt) tt e in
-      state-blanked (h .bytes) b 0xFFFF (wipe (form .word (h .bytes)) b) (h .power) (a .0) (all-faded (h .bytes) b (a .0))
+      state-blanked (h .bytes) b 0xFFFF (wipe (form .word (h .bytes)) b) (h .power) (a .1) (all-faded (h .bytes) b (a .1))
 
   stays-blank : (m : Memory) (b w : ℕ) → m b w ≡ None → (c x : ℕ) → m c x ≡ put m b w None c x
   stays-blank m b w h c x = grind (arith, tells)
@@ -118,15 +110,15 @@ module _ (form : Form) (law : Lawful form) where
   meant-stopped (Command.program b w v) h f e =
       let a = allowed-ok (form .kind) (meant form h) b w (unwritten (form .kind) b w (form .word (h .bytes) b w)) tt e in
       let manner = h .rehearsal .manner in
-      stop (eqb manner 0) (cond (eqb manner 1) v manner) (elim (eqb manner 1) as (λ t. cond t v manner < 2 ^ 32) [ true ↦ f .0 | false ↦ f .1 ]) (a .0) (a .1) (unwritten-blank (form .kind) b w (form .word (h .bytes) b w) (a .2))
+      stop (eqb manner 0) (cond (eqb manner 1) v manner) (elim (eqb manner 1) as (λ t. cond t v manner < 2 ^ 32) [ true ↦ f .0 | false ↦ f .1 ]) (a .1) (a .2) (unwritten-blank (form .kind) b w (form .word (h .bytes) b w) (a .3))
     where
       stop : (t : Bool) (y : ℕ) → y < 2 ^ 32 → b < blocks form (h .bytes) → w < 16 → form .word (h .bytes) b w ≡ None
           → (left : Option ℕ) × Word4 left × (state false (cond t (h .bytes) (form .put-word (h .bytes) b w (Some y))) ≡ powered false (meant form h) (put (form .word (h .bytes)) b w left))
-      stop true y hy hb hw e = (None, tt, same-state (blocks form (h .bytes)) false _ _ (stays-blank (form .word (h .bytes)) b w e))
+      stop true y hy hb hw e = (None, tt, same-state _ _ refl refl (stays-blank (form .word (h .bytes)) b w e))
       stop false y hy hb hw e = (Some y, hy, state-put (h .bytes) b w (Some y) false hb hw hy)
   meant-stopped (Command.erase b) h f e =
       let a = allowed-ok (form .kind) (meant form h) b 0 (Ok tt) tt e in
-      (below (bit (h .rehearsal .manner)) 16, state-blanked (h .bytes) b (h .rehearsal .manner) (fade (form .word (h .bytes)) b (below (bit (h .rehearsal .manner)) 16)) false (a .0) (λ _ _. refl))
+      (below (bit (h .rehearsal .manner)) 16, state-blanked (h .bytes) b (h .rehearsal .manner) (fade (form .word (h .bytes)) b (below (bit (h .rehearsal .manner)) 16)) false (a .1) (λ _ _. refl))
 
   pub obeyed : {F : Type 0} (c : Command) (x y : Simulated F) (r : Result (Unit {0}) FlashFault) → Fits4 c (x .rehearsal .manner)
       → Exact form c (held x) r (held y) → ((f : FlashFault) → verdict (form .kind) c (meant form (held x)) ≡ Err f → y ≡ x)

@@ -1,0 +1,2 @@
+-- Lemmas: what a clearing and a mending leave.
+pub mod Freed

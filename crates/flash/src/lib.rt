@@ -39,7 +39,8 @@ pub trait Flash {
 
     /// Whether power is on.
     fn has_power(&self) -> bool
-        ensures { λ r. ⌜ r ≡ model .meaning (now (self .entry)) .power ⌝ };
+        ensures answer { λ r. ⌜ r ≡ model .meaning (now (self .entry)) .power ⌝ }
+        ensures shape { λ _. ⌜ Shaped (model .meaning (now (self .entry))) ⌝ };
 
     /// What a word holds: `None` where it is blank.
     fn look(&self, block: BlockNumber, word: u8) -> Result<Option<u32>, FlashFault>

@@ -1,0 +1,6 @@
+use Rattle.layout.specs.Fields.{kind-of}
+use Rattle.layout.proofs.block.BlockWords.kind.Needs as need
+
+pub returns : need.returns
+unfolding kind-of
+returns c = c .byte .ensures

@@ -1,0 +1,7 @@
+//! The layout of records in a flash: plans, the fields of a block, the code, and the check of a block. No heap.
+pub mod block;
+pub mod check;
+pub mod code;
+pub mod fields;
+pub mod plan;
+pub mod sizes;

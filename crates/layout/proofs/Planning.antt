@@ -14,6 +14,9 @@ module _ (xs : List ℕ) (c : ℕ) (whole : length xs ≡ 64) (few : c ≤ 64) w
   pub front-numbers : numbers (take c xs) ≡ c
   front-numbers = length-take-le c xs (omega arith)
 
+  pub front-few : numbers (take c xs) ≤ 64
+  front-few = omega (arith, front-numbers)
+
   pub front-size : (n : ℕ) → n < c → size (take c xs) n ≡ getD xs n 0
   front-size n h = getD-take c xs n 0 h
 

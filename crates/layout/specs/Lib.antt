@@ -1,7 +1,8 @@
--- The layout of records, in the order in which to read it: plans and sizes, bytes and fields, the code, soundness, what is read of a flash.
+-- The layout of records, in the order in which to read it: plans and sizes, fields, the code, soundness, records; then what plans and blocks mean that the code holds.
 pub mod Sizes
 pub mod Fields
 pub mod Code
 pub mod Sound
+pub mod Records
 pub mod Plans
 pub mod Reads

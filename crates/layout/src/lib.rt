@@ -5,3 +5,4 @@ pub mod code;
 pub mod fields;
 pub mod plan;
 pub mod sizes;
+pub mod state;

@@ -53,5 +53,9 @@ all-read s b xs shape h = fun-ext (λ w. elim (cases-lt w 16) [
   | inr l ↦ let e : ltb w 16 ≡ false = le-ltb w 16 l in rw e (sym (shape .outside b w (grind (arith, tells))))
 ])
 
-pub place-reached : (k : ℕ) (s : State) (b : ℕ) → s .power ≡ true → b < s .count → reached k s b 0 ≡ Ok tt
-place-reached k s b on i = grind (arith, tells)
+-- a block of a flash with power is read
+pub not-refused : (k : ℕ) (s : State) (b : ℕ) (f : FlashFault) → s .power ≡ true → b < s .count → reached k s b 0 ≡ Err f → ⊥
+not-refused k s b f on i h =
+    let ok : reached k s b 0 ≡ Ok tt = grind (arith, tells) in
+    let e : _≡_ {A = Result (Unit {0}) FlashFault} (Ok tt) (Err f) = sym ok ∙ h in
+    let z : _≡_ {A = ℕ} 0 1 = cc in omega arith

@@ -4,6 +4,7 @@ ghost use Prim.Native.Nat.{ℕ, _<_};
 ghost use lib.ListN.{length, getD};
 ghost use Rattle.std.specs.Options.{Cases as BySome};
 ghost use Rattle.std.specs.declared.option.Option.the-variants.{None};
+ghost use Rattle.layout.specs.Records.{current as current-of, Current};
 ghost use Rattle.layout.specs.Plans.{sizes-of};
 ghost use Rattle.records.specs.Answered.{Answers};
 ghost use Rattle.records.specs.Heads.{owner, head-in, entered};
@@ -92,8 +93,15 @@ impl Heads {
     }
 }
 
-/// The heads of all current records.
+/// The heads of all current records: for each number the sound first block of highest serial, ties to the lower block.
 pub fn current_heads<F: Flash>(flash: &F, plan: &Plan) -> Result<Heads, FlashFault>
+    ensures answer { λ r. ⌜ Finds (model .kind) (model .meaning (now (flash .entry))) (sizes-of (now (plan .entry))) r ⌝ }
+    ensures law { λ _. ⌜ ((n : ℕ) → Current (model .meaning (now (flash .entry)) .count) (model .meaning (now (flash .entry)) .word) (sizes-of (now (plan .entry))) n (current-of (model .meaning (now (flash .entry)) .count) (model .meaning (now (flash .entry)) .word) (sizes-of (now (plan .entry))) n)) ⌝ }
+{
+    find_heads(flash, plan)
+}
+
+fn find_heads<F: Flash>(flash: &F, plan: &Plan) -> Result<Heads, FlashFault>
     ensures { λ r. ⌜ Finds (model .kind) (model .meaning (now (flash .entry))) (sizes-of (now (plan .entry))) r ⌝ }
 {
     ask_power(flash)?;

@@ -1,6 +1,6 @@
 -- Each look reads one word more.
 use native.Mathlib.Omega.{arith}
-use Rattle.records.proofs.Sixteen.{reading-more, all-read, place-reached}
+use Rattle.records.proofs.Sixteen.{reading-more}
 use Rattle.records.proofs.reading.read_block.Needs as need
 
 pub loop-w-again : need.loop-w-again

@@ -1,0 +1,2 @@
+-- What is copied of a value.
+pub mod Copying

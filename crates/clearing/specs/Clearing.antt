@@ -12,9 +12,11 @@ use Rattle.std.specs.declared.option.Option.the-variants.{Some, None}
 use Rattle.flash.specs.State.{State, Memory, put, wipe, powered}
 use Rattle.flash.specs.Commands.{Command, program, erase}
 
+-- the four bytes of a mark
 abbrev pub mark : ℕ
 mark = 0xAAAA_AAAA
 
+-- the two commands that end every erase
 abbrev pub mending : ℕ → ℕ → List Command
 mending v b = erase b ∷ (program b 15 v ∷ [])
 
@@ -23,6 +25,7 @@ abbrev pub starting : ℕ → Option ℕ → List Command
 starting b None = program b 14 mark ∷ []
 starting b (Some _) = []
 
+-- a clearing is a mending that says first that it begins
 abbrev pub clearing : ℕ → ℕ → Memory → List Command
 clearing v b m = starting b (m b 14) ++ mending v b
 

@@ -30,6 +30,7 @@ abbrev pub block-of : Command → ℕ
 block-of (program b w v) = b
 block-of (erase b) = b
 
+-- 0 stands for the word of an erase
 abbrev pub word-of : Command → ℕ
 word-of (program b w v) = w
 word-of (erase b) = 0
@@ -52,6 +53,7 @@ abbrev pub unwritten : ℕ → ℕ → ℕ → Option ℕ → Result (Unit {0}) 
 unwritten k b w None = Ok tt
 unwritten k b w (Some v) = Err (fault Written k b w)
 
+-- whether a command is refused, and with which fault
 abbrev pub verdict : ℕ → Command → State → Result (Unit {0}) FlashFault
 verdict k (program b w v) s = allowed k s b w (unwritten k b w (s .word b w))
 verdict k (erase b) s = reached k s b 0

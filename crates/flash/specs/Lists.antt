@@ -29,6 +29,7 @@ abbrev pub Cut : {F : Type 0} → Model F → List Command → F → FlashFault 
 Cut model [] x f y = ⊥
 Cut {F} model (c ∷ cs) x f y = ((f ≡ loss (model .kind) c) × Lost model c x y) ⊎ ((z : F) × Done model c x z × Cut model cs z f y)
 
+-- to the end, or cut off
 abbrev pub Given : {F : Type 0} → Model F → List Command → F → Result (Unit {0}) FlashFault → F → Type 0
 Given model cs x (Ok _) y = Through model cs x y
 Given model cs x (Err f) y = Cut model cs x f y
@@ -43,6 +44,7 @@ abbrev pub applied-all : List Command → Memory → Memory
 applied-all [] m = m
 applied-all (c ∷ cs) m = applied-all cs (applied c m)
 
+-- power stays
 abbrev pub all-done : List Command → State → State
 all-done cs s = powered (s .power) s (applied-all cs (s .word))
 
@@ -51,6 +53,7 @@ abbrev pub Interrupted : ℕ → List Command → State → FlashFault → State
 Interrupted k [] s f t = ⊥
 Interrupted k (c ∷ cs) s f t = ((f ≡ loss k c) × Stopped c s t) ⊎ Interrupted k cs (done c s) f t
 
+-- to the end, or cut off, over states
 abbrev pub Ran : ℕ → List Command → State → Result (Unit {0}) FlashFault → State → Type 0
 Ran k cs s (Ok _) t = t ≡ all-done cs s
 Ran k cs s (Err f) t = Interrupted k cs s f t
@@ -66,10 +69,12 @@ abbrev pub Takes : ℕ → Command → Memory → Type 0
 Takes n (program b w v) m = (b < n) × (w < 16) × (m b w ≡ None)
 Takes n (erase b) m = b < n
 
+-- each of them, after those before it
 abbrev pub Taken : ℕ → List Command → Memory → Type 0
 Taken n [] m = Unit {0}
 Taken n (c ∷ cs) m = Takes n c m × Taken n cs (applied c m)
 
+-- each command is of another block
 abbrev pub Spares : ℕ → List Command → Type 0
 Spares b [] = Unit {0}
 Spares b (c ∷ cs) = (block-of c ≡ b → ⊥) × Spares b cs

@@ -10,6 +10,7 @@ use Rattle.std.specs.declared.option.Option.the-variants.{Some, None}
 use Rattle.formats.specs.Bytes.{four, put-four}
 use Rattle.formats.specs.Forms.{Form, blocks-of}
 
+-- how many blocks a memory of cells has
 abbrev pub cells-blocks : List ℕ → ℕ
 cells-blocks m = blocks-of 80 (length m)
 
@@ -17,6 +18,7 @@ cells-blocks m = blocks-of 80 (length m)
 abbrev pub cell-at : ℕ → ℕ → ℕ
 cell-at b w = 80 * b + 5 * w
 
+-- blank where the first byte is FF
 abbrev pub cells-word : List ℕ → ℕ → ℕ → Option ℕ
 cells-word m b w =
     cond (ltb b (cells-blocks m) && ltb w 16) (cond (eqb (getD m (cell-at b w) 0) 255) None (Some (four m (cell-at b w + 1)))) None
@@ -30,5 +32,6 @@ abbrev pub cells-put : List ℕ → ℕ → ℕ → Option ℕ → List ℕ
 cells-put m b w (Some v) = cond (ltb b (cells-blocks m) && ltb w 16) (filled m b w 0 v) m
 cells-put m b w None = cond (ltb b (cells-blocks m) && ltb w 16) (filled m b w 255 0xFFFF_FFFF) m
 
+-- kind 2, 80 bytes a block
 abbrev pub cells : Form
 cells = record { kind = 2; size = 80; word = cells-word; put-word = cells-put }

@@ -24,6 +24,7 @@ pub record Form : Type 0 where
   pub word : List ℕ → ℕ → ℕ → Option ℕ
   pub put-word : List ℕ → ℕ → ℕ → Option ℕ → List ℕ
 
+-- how many blocks a memory of this form has
 abbrev pub blocks : Form → List ℕ → ℕ
 blocks form m = blocks-of (form .size) (length m)
 

@@ -10,6 +10,7 @@ use Rattle.std.specs.declared.option.Option.the-variants.{Some, None}
 use Rattle.formats.specs.Bytes.{bit, four, put-four, put-bit}
 use Rattle.formats.specs.Forms.{Form, blocks-of}
 
+-- how many blocks an image has
 abbrev pub image-blocks : List ℕ → ℕ
 image-blocks m = blocks-of 66 (length m)
 
@@ -21,9 +22,11 @@ word-at b w = 64 * b + 4 * w
 abbrev pub mark-at : ℕ → ℕ → ℕ → ℕ
 mark-at n b w = 64 * n + 2 * b + w / 8
 
+-- the bit of word w of block b is 1
 abbrev pub written : List ℕ → ℕ → ℕ → Bool
 written m b w = bit (getD m (mark-at (image-blocks m) b w) 0) (w % 8)
 
+-- blank where the bit is 0
 abbrev pub image-word : List ℕ → ℕ → ℕ → Option ℕ
 image-word m b w = cond (ltb b (image-blocks m) && ltb w 16) (cond (written m b w) (Some (four m (word-at b w))) None) None
 
@@ -36,5 +39,6 @@ abbrev pub image-put : List ℕ → ℕ → ℕ → Option ℕ → List ℕ
 image-put m b w (Some v) = cond (ltb b (image-blocks m) && ltb w 16) (placed m b w v true) m
 image-put m b w None = cond (ltb b (image-blocks m) && ltb w 16) (placed m b w 0xFFFF_FFFF false) m
 
+-- kind 1, 66 bytes a block
 abbrev pub image : Form
 image = record { kind = 1; size = 66; word = image-word; put-word = image-put }

@@ -24,6 +24,7 @@ use Rattle.pair.specs.declared.Pair.{Pair}
 use Rattle.pair.specs.declared.Side.{Side}
 use Rattle.pair.specs.declared.Side.the-variants.{First, Second}
 
+-- at most 256 blocks in all
 abbrev pub pair-count : State → State → ℕ
 pair-count s t = cond (leb (s .count + t .count) 256) (s .count + t .count) 0
 
@@ -39,6 +40,7 @@ pair-state s t = record {
 abbrev pub side : ℕ → ℕ → Side
 side n b = cond (ltb b n) (First (record { 0 = b })) (Second (record { 0 = b - n }))
 
+-- the same command, at the block of the second flash
 abbrev pub lowered : ℕ → Command → Command
 lowered n (program b w v) = program (b - n) w v
 lowered n (erase b) = erase (b - n)
@@ -58,5 +60,6 @@ joined first second = record {
   returned = λ rehearsal x y. Returned first rehearsal (x .first) (y .first) × Returned second rehearsal (x .second) (y .second);
 }
 
+-- a pair above 256 blocks is refused
 abbrev pub pair-check : State → State → Result (Unit {0}) FlashFault
 pair-check s t = cond (leb (s .count + t .count) 256) (Ok tt) (Err (fault Making 4 0 0))

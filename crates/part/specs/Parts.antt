@@ -20,6 +20,7 @@ use Rattle.flash.specs.Commands.{Command, program, erase}
 use Rattle.flash.specs.Rules.{Model, Done, Lost, Returned}
 use Rattle.part.specs.declared.Part.{Part}
 
+-- its own n, where the flash below has that many from block a on
 abbrev pub part-count : ℕ → ℕ → State → ℕ
 part-count a n s = cond (leb (a + n) (s .count)) n 0
 
@@ -31,10 +32,12 @@ part-state a n s = record {
   word = λ b w. cond (ltb b (part-count a n s)) (s .word (a + b) w) None;
 }
 
+-- the same command, at the block of the flash below
 abbrev pub shifted : ℕ → Command → Command
 shifted a (program b w v) = program (a + b) w v
 shifted a (erase b) = erase (a + b)
 
+-- nothing of a part changes but the flash below
 abbrev pub over : {F : Type 0} → F → Part F → Part F
 over z x = record { below = z; first = x .first; blocks = x .blocks }
 
@@ -48,5 +51,6 @@ partial model = record {
   returned = λ rehearsal x y. Returned model rehearsal (x .below) (y .below) × (y ≡ over (y .below) x);
 }
 
+-- a part that goes beyond its flash is refused
 abbrev pub part-check : ℕ → ℕ → State → Result (Unit {0}) FlashFault
 part-check a n s = cond (leb (a + n) (s .count)) (Ok tt) (Err (fault Making 3 0 0))

@@ -9,6 +9,7 @@ use Rattle.simulated.specs.declared.Simulated.{Simulated}
 use Rattle.formats.specs.Forms.{Form}
 use Rattle.simulated.specs.Rehearsed.{Held, meant, after, broken, resumed}
 
+-- what a caller may know of its value
 abbrev pub held : {F : Type 0} → Simulated F → Held
 held x = record { bytes = vec-items (x .memory); power = x .power; rehearsal = x .rehearsal }
 

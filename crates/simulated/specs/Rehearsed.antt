@@ -22,6 +22,7 @@ use Rattle.flash.specs.Commands.{Command, verdict, loss}
 use Rattle.formats.specs.Bytes.{bit}
 use Rattle.formats.specs.Forms.{Form, blocks, blocks-of}
 
+-- what a simulated flash holds
 pub record Held : Type 0 where
   pub bytes : List ℕ
   pub power : Bool
@@ -39,6 +40,7 @@ resumed rehearsal h = record { bytes = h .bytes; power = true; rehearsal = rehea
 abbrev pub with-bytes : List ℕ → Held → Held
 with-bytes m h = record { bytes = m; power = h .power; rehearsal = h .rehearsal }
 
+-- its block count comes from the length of its memory
 abbrev pub meant : Form → Held → State
 meant form h = record { count = blocks form (h .bytes); power = h .power; word = form .word (h .bytes) }
 
@@ -46,6 +48,7 @@ meant form h = record { count = blocks form (h .bytes); power = h .power; word =
 abbrev pub checked : Form → ℕ → Result (Unit {0}) FlashFault
 checked form len = cond (eqb (blocks-of (form .size) len) 0) (Err (fault Making (form .kind) 0 0)) (Ok tt)
 
+-- word by word, from word 0 on
 unfoldable pub blanked : Form → List ℕ → ℕ → ℕ → ℕ → List ℕ
 blanked form m b marks zero = m
 blanked form m b marks (suc w) =
@@ -75,6 +78,7 @@ off h = record { bytes = h .bytes; power = false; rehearsal = h .rehearsal }
 abbrev pub after : Form → Command → Held → Held
 after form c h = with-bytes (done-bytes form c (h .bytes)) (taken h)
 
+-- power goes, and the numbers stay
 abbrev pub broken : Form → Command → Held → Held
 broken form c h = with-bytes (stopped-bytes form (h .rehearsal .manner) c (h .bytes)) (off h)
 
@@ -83,10 +87,12 @@ abbrev pub answered : Form → Command → Held → Result (Unit {0}) FlashFault
 answered form c h (Err f) = Err f
 answered form c h (Ok _) = cond (ltb 0 (h .rehearsal .commands)) (Ok tt) (Err (loss (form .kind) c))
 
+-- what is left, by the verdict
 abbrev pub leaves : Form → Command → Held → Result (Unit {0}) FlashFault → Held
 leaves form c h (Err f) = h
 leaves form c h (Ok _) = cond (ltb 0 (h .rehearsal .commands)) (after form c h) (broken form c h)
 
+-- the answer and what is left are just these
 pub record Exact (form : Form) (c : Command) (h : Held) (r : Result (Unit {0}) FlashFault) (left : Held) : Type 0 where
   pub answer : r ≡ answered form c h (verdict (form .kind) c (meant form h))
   pub holds : left ≡ leaves form c h (verdict (form .kind) c (meant form h))

@@ -1,0 +1,4 @@
+-- Lemmas: bytes put into words are read back; words filled one by one; the record that is left.
+pub mod Codec
+pub mod Fill
+pub mod Written

@@ -1,6 +1,7 @@
 -- What the commands of a record leave when they are done on free blocks.
 --     Bare u             a free block's words: blank but for erase end
 --     Suits ..           number, serial, data and blocks suit the plan and the flash
+--     Counts z r         a record of z bytes takes r commands
 --     Sound-when-done    the law: the record is sound, is read back as it was given, and no other block changes
 use mathlib.Core.Path.{_≡_}
 use mathlib.Core.Bool.{Bool, true, false, _||_}
@@ -55,3 +56,8 @@ abbrev pub Sound-when-done : Type 0
 Sound-when-done =
     (count : ℕ) (p : Sizes) (n s : ℕ) (d : List ℕ) (b : ℕ) (bs : List ℕ) (m : Memory) → Suits count p n s d b bs m
     → Wrote count p n s d b bs m (applied-all (record-commands p n s d b bs) m)
+
+-- the count of commands depends on the size alone, and not on the data or the blocks taken
+abbrev pub Counts : ℕ → ℕ → Type 0
+Counts z r =
+    (p : Sizes) (n s : ℕ) (d : List ℕ) (b : ℕ) (bs : List ℕ) → size p n ≡ z → length bs ≡ followers z → length (record-commands p n s d b bs) ≡ r

@@ -6,13 +6,14 @@
 --     follow-commands s b d j bs     the following blocks bs, in chain order
 --     first-commands p n s d b next  the first block, write end last
 --     record-commands p n s d b bs   the whole record: following blocks, then the first block
+--     commands-of s                  how many commands the record of a number of s bytes takes
 use mathlib.Core.List.{List, [], _∷_, _++_, map}
-use Prim.Native.Nat.{ℕ, suc, _+_, _*_}
+use Prim.Native.Nat.{ℕ, zero, suc, _+_, _*_}
 use lib.ListN.{getD, take, drop}
 use Rattle.std.specs.Iters.{counting}
 use Rattle.flash.specs.Commands.{Command, program}
 use Rattle.clearing.specs.Clearing.{mark}
-use Rattle.layout.specs.Sizes.{Sizes, size, first-share, share, head-words, data-words}
+use Rattle.layout.specs.Sizes.{Sizes, size, followers, first-share, share, head-words, data-words}
 use Rattle.layout.specs.Code.{low-bytes, code-of}
 use Rattle.layout.specs.Sound.{first-type}
 
@@ -51,3 +52,12 @@ first-commands p n s d b next = programs b (first-bytes p n s next d) (head-word
 -- a first block finished before its following blocks would name data that is not there
 unfoldable pub record-commands : Sizes → ℕ → ℕ → List ℕ → ℕ → List ℕ → List Command
 record-commands p n s d b bs = follow-commands (size p n) b d 0 bs ++ first-commands p n s d b (next-of b bs)
+
+-- how many commands l following blocks take, from following block j on
+abbrev pub follow-count : ℕ → ℕ → ℕ → ℕ
+follow-count s j zero = 0
+follow-count s j (suc l) = data-words s j + follow-count s (j + 1) l
+
+-- how many a record of s bytes takes: the words of each block, and write end
+unfoldable pub commands-of : ℕ → ℕ
+commands-of s = follow-count s 0 (followers s) + head-words s + 1

@@ -1,27 +1,23 @@
 -- The table of states one block on, and its counts.
 use mathlib.Core.Path.{_≡_, refl, sym, ap, subst, _∙_}
 use mathlib.Core.Bool.{Bool, true, false, cond}
-use mathlib.Core.List.{List, [], _∷_, map}
+use mathlib.Core.List.{List}
 use mathlib.Core.Logic.{inl, inr}
 use Prim.Native.Nat.{ℕ, zero, suc, _+_, _<_, _≤_}
-use native.Mathlib.Nat.{add-zero}
 use native.Mathlib.Numerals.{add-one}
 use native.Mathlib.Omega.{arith}
 use lib.Dec.{ltb}
 use lib.ListN.{length, getD, set}
-use Rattle.std.specs.Iters.{counting}
-use Rattle.std.specs.shelf.Lists.{kept-by}
 use Rattle.std.specs.declared.option.Option.{Option}
 use Rattle.std.specs.declared.option.Option.the-variants.{Some, None}
 use Rattle.std.proofs.shelf.Tests.{cases-eq, cases-lt, lt-ltb, le-ltb, cond-true, cond-false}
-use Rattle.std.proofs.shelf.Lists.{getD-set-same, getD-set-other, length-set, length-append, map-id}
-use Rattle.std.proofs.shelf.Counted.{kept-by-map-counting-more}
+use Rattle.std.proofs.shelf.Lists.{getD-set-same, getD-set-other, length-set}
 use Rattle.std.proofs.shelf.Ways.{tells}
 use Rattle.flash.specs.State.{Words, Memory}
 use Rattle.layout.specs.declared.state.BlockState.{BlockState}
 use Rattle.layout.specs.declared.state.BlockState.the-variants.{Live, Free, HalfErased, Spent}
 use Rattle.layout.specs.Sizes.{Sizes}
-use Rattle.layout.specs.States.{half-erased, clean, in-use, stated, state, same-state, counted}
+use Rattle.layout.specs.States.{half-erased, clean, in-use, stated, state}
 use Rattle.survey.specs.declared.table.Entry.{Entry}
 use Rattle.survey.specs.declared.table.Survey.{Survey}
 use Rattle.survey.specs.declared.table.Counts.{Counts}

@@ -3,6 +3,7 @@
 --     entry-of count m p b   what it is to be: the state of block b, none at or above the block count
 --     Surveys k s p r        the answer r is a table of these, or the flash's own fault where power is off
 --     tally es n             how many of the first n entries there are of each state
+--     counts-of count m p    how many blocks of the flash there are of each state
 use mathlib.Core.Path.{_≡_}
 use mathlib.Core.Bool.{true, false, cond}
 use mathlib.Core.List.{List}
@@ -19,7 +20,7 @@ use Rattle.flash.specs.State.{State, Memory}
 use Rattle.layout.specs.declared.state.BlockState.{BlockState}
 use Rattle.layout.specs.declared.state.BlockState.the-variants.{Live, Free, HalfErased, Spent}
 use Rattle.layout.specs.Sizes.{Sizes}
-use Rattle.layout.specs.States.{state}
+use Rattle.layout.specs.States.{state, counted}
 use Rattle.survey.specs.declared.table.Entry.{Entry}
 use Rattle.survey.specs.declared.table.Survey.{Survey}
 use Rattle.survey.specs.declared.table.Counts.{Counts}
@@ -49,6 +50,10 @@ counted-with c (Some Spent) = record { live = c .live; free = c .free; «half_er
 abbrev pub tally : List Entry → ℕ → Counts
 tally es zero = record { live = 0; free = 0; «half_erased» = 0; spent = 0 }
 tally es (suc n) = counted-with (tally es n) (getD es n (entry None) .state)
+
+abbrev pub counts-of : ℕ → Memory → Sizes → Counts
+counts-of count m p =
+    record { live = counted count m p Live; free = counted count m p Free; «half_erased» = counted count m p HalfErased; spent = counted count m p Spent }
 
 -- each count is below n
 abbrev pub Few : ℕ → Counts → Type 0

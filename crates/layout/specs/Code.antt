@@ -12,6 +12,7 @@ use lib.Bits.{bitXor}
 unfoldable pub crc-bit : ℕ → ℕ
 crc-bit r = cond (ltb r 32768) (r * 2) (bitXor (r * 2 % 65536) 0x1021)
 
+-- so many bits on
 unfoldable pub crc-bits : ℕ → ℕ → ℕ
 unfolding crc-bit
 crc-bits zero r = r
@@ -22,15 +23,18 @@ unfoldable pub crc-byte : ℕ → ℕ → ℕ
 unfolding crc-bits
 crc-byte r x = crc-bits 8 (bitXor r (x * 256))
 
+-- all bytes in turn, from a start
 unfoldable pub crc-from : ℕ → List ℕ → ℕ
 unfolding crc-byte
 crc-from r [] = r
 crc-from r (x ∷ xs) = crc-from (crc-byte r x) xs
 
+-- the start is FFFF hex
 unfoldable pub crc : List ℕ → ℕ
 unfolding crc-from
 crc xs = crc-from 0xFFFF xs
 
+-- the low bytes of a number, low byte first
 abbrev pub low-bytes : ℕ → ℕ → List ℕ
 low-bytes zero x = []
 low-bytes (suc k) x = x % 256 ∷ low-bytes k (x / 256)

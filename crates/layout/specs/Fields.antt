@@ -27,10 +27,12 @@ unfoldable pub byte : Words → ℕ → ℕ
 unfolding low
 byte m k = low (held (m (k / 4))) (k % 4)
 
+-- the number of l bytes from byte k on
 abbrev pub number-at : Words → ℕ → ℕ → ℕ
 number-at m k zero = 0
 number-at m k (suc l) = byte m k + 256 * number-at m (suc k) l
 
+-- l bytes from byte k on
 unfoldable pub bytes : Words → ℕ → ℕ → List ℕ
 unfolding byte
 bytes m k l = map (byte m) (counting k l)
@@ -60,10 +62,12 @@ unfoldable pub code : Words → ℕ
 unfolding byte
 code m = number-at m 9 2
 
+-- a word that is not blank
 abbrev pub written : Option ℕ → Bool
 written None = false
 written (Some v) = true
 
+-- a word that is not written
 abbrev pub blank : Option ℕ → Bool
 blank v = not (written v)
 
@@ -76,5 +80,6 @@ all-from t k (suc l) = t k && all-from t (suc k) l
 abbrev pub all-written : Words → ℕ → ℕ → Bool
 all-written m k l = all-from (λ w. written (m w)) k (l - k)
 
+-- the same, blank
 abbrev pub all-blank : Words → ℕ → ℕ → Bool
 all-blank m k l = all-from (λ w. blank (m w)) k (l - k)

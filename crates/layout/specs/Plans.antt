@@ -9,6 +9,7 @@ use Rattle.layout.specs.declared.plan.PlanFault.{PlanFault}
 use Rattle.layout.specs.declared.plan.PlanFault.the-variants.{OutOfRange}
 use Rattle.layout.specs.Sizes.{Sizes}
 
+-- the front of the table that a plan holds
 abbrev pub sizes-of : Plan → Sizes
 sizes-of plan = take (plan .count) (plan .sizes)
 

@@ -11,9 +11,11 @@ use Rattle.layout.specs.declared.block.BlockWords.{BlockWords}
 use Rattle.layout.specs.declared.block.FirstFields.{FirstFields}
 use Rattle.layout.specs.Fields.{kind-of, chain, number, serial, code, written}
 
+-- there is no word above 15
 abbrev pub words-of : BlockWords → Words
 words-of x w = cond (ltb w 16) (getD (x .words) w None) None
 
+-- the fields that stand in some words
 abbrev pub the-fields : Words → FirstFields
 the-fields m = record { kind = kind-of m; chain = record { 0 = chain m }; number = record { 0 = number m }; serial = serial m; code = code m }
 

@@ -31,6 +31,7 @@ abbrev pub best : (ℕ → Bool) → Memory → ℕ → Option ℕ
 best t m zero = None
 best t m (suc b) = better m (best t m b) b (t b)
 
+-- the best of the sound first blocks of a number
 unfoldable pub current : ℕ → Memory → Sizes → ℕ → Option ℕ
 current count m p n = best (sound count m p n) m count
 
@@ -46,6 +47,7 @@ abbrev pub chained : Memory → ℕ → ℕ → List ℕ
 chained m c zero = []
 chained m c (suc l) = c ∷ chained m (chain (m c)) l
 
+-- the first block, then the following ones in chain order
 unfoldable pub blocks-at : Memory → Sizes → ℕ → ℕ → List ℕ
 blocks-at m p n b = b ∷ chained m (chain (m b)) (followers (size p n))
 
@@ -54,9 +56,11 @@ abbrev pub data-from : Memory → ℕ → ℕ → ℕ → ℕ → List ℕ
 data-from m s j c zero = []
 data-from m s j c (suc l) = bytes (m c) 3 (share s j) ++ data-from m s (suc j) (chain (m c)) l
 
+-- the data of the first block, then that of the following ones
 unfoldable pub data-at : Memory → Sizes → ℕ → ℕ → List ℕ
 data-at m p n b = bytes (m b) 11 (first-share (size p n)) ++ data-from m (size p n) 0 (chain (m b)) (followers (size p n))
 
+-- a function of what is there, if anything is
 abbrev pub over : {A : Type 0} → (ℕ → A) → Option ℕ → Option A
 over f None = None
 over f (Some b) = Some (f b)
@@ -72,6 +76,7 @@ newer m (Some b) None = Some b
 newer m (Some b) (Some c) =
     cond (ltb (serial (m b)) (serial (m c)) || (eqb (serial (m b)) (serial (m c)) && ltb c b)) (Some c) (Some b)
 
+-- the newest of the current records of the numbers below n
 abbrev pub newest-below : ℕ → Memory → Sizes → ℕ → Option ℕ
 newest-below count m p zero = None
 newest-below count m p (suc n) = newer m (newest-below count m p n) (current count m p n)

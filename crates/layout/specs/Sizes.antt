@@ -11,6 +11,7 @@ use mathlib.Core.List.{List}
 use Prim.Native.Nat.{ℕ, _+_, _-_, _*_, _/_, min, _<_, _≤_}
 use lib.ListN.{length, getD}
 
+-- the size of number n stands at place n
 abbrev pub Sizes : Type 0
 Sizes = List ℕ
 
@@ -22,6 +23,7 @@ numbers p = length p
 abbrev pub size : Sizes → ℕ → ℕ
 size p n = getD p n 0
 
+-- a plan that can be made
 pub record Planned (p : Sizes) : Type 0 where
   pub some : 1 ≤ numbers p
   pub few : numbers p ≤ 64
@@ -31,13 +33,16 @@ pub record Planned (p : Sizes) : Type 0 where
 unfoldable pub followers : ℕ → ℕ
 followers s = (s - 41 + 52) / 53
 
+-- the first block and the following ones
 unfoldable pub blocks-of : ℕ → ℕ
 unfolding followers
 blocks-of s = 1 + followers s
 
+-- at most 41 bytes
 unfoldable pub first-share : ℕ → ℕ
 first-share s = min s 41
 
+-- what the blocks before it leave, at most 53 bytes
 unfoldable pub share : ℕ → ℕ → ℕ
 share s j = min (s - 41 - 53 * j) 53
 

@@ -29,6 +29,7 @@ candidate p n m =
     && blank (m 14)
     && written (m 15)
 
+-- the code field is the code of number and serial
 unfoldable pub coded : Words → Bool
 coded m = eqb (code m) (code-of (number m) (serial m))
 

@@ -1,14 +1,14 @@
 -- Sixteen words that were read are the words of the block.
-use mathlib.Core.Path.{_≡_, refl, sym, subst, fun-ext, _∙_}
-use mathlib.Core.Bool.{true, false, cond, _&&_}
+use mathlib.Core.Path.{_≡_, sym, subst, fun-ext, _∙_}
+use mathlib.Core.Bool.{true, false, cond}
 use mathlib.Core.Logic.{inl, inr}
 use mathlib.Core.List.{List}
-use Prim.Native.Nat.{ℕ, _+_, _<_, _≤_}
+use Prim.Native.Nat.{ℕ, _+_, _<_}
 use native.Mathlib.Omega.{arith}
 use lib.Dec.{ltb}
 use lib.ListN.{length, getD, set}
 use Rattle.std.specs.declared.option.Option.{Option}
-use Rattle.std.specs.declared.option.Option.the-variants.{Some, None}
+use Rattle.std.specs.declared.option.Option.the-variants.{None}
 use Rattle.std.specs.declared.result.Result.{Result}
 use Rattle.std.specs.declared.result.Result.the-variants.{Ok, Err}
 use Rattle.std.proofs.shelf.Tests.{cases-lt, lt-ltb, le-ltb}
@@ -17,7 +17,7 @@ use Rattle.std.proofs.shelf.Edits.{fill-by-more}
 use Rattle.std.proofs.shelf.Lists.{length-set}
 use Rattle.flash.specs.declared.fault.FlashFault.{FlashFault}
 use Rattle.flash.specs.State.{State, Words, Shaped}
-use Rattle.flash.specs.Commands.{allowed, looked, reached}
+use Rattle.flash.specs.Commands.{looked, reached}
 use Rattle.flash.proofs.Carried.{allowed-ok}
 
 -- the words below w are read, with power on; once one is read the block is one of the flash's

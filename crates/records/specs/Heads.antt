@@ -18,9 +18,11 @@ use Rattle.records.specs.declared.head.Head.{Head}
 use Rattle.records.specs.declared.head.Owned.{Owned}
 use Rattle.records.specs.declared.head.Heads.{Heads}
 
+-- the head of a record whose first block is b
 abbrev pub head-at : Memory → ℕ → Head
 head-at m b = record { serial = serial (m b); block = record { 0 = b } }
 
+-- none where there is no record
 abbrev pub headed : Memory → Option ℕ → Option Head
 headed m None = None
 headed m (Some b) = Some (head-at m b)
@@ -38,6 +40,7 @@ abbrev pub preferred : Option Head → Head → Option Head
 preferred None h = Some h
 preferred (Some o) h = cond (ltb (o .serial) (h .serial)) (Some h) (Some o)
 
+-- a record is entered under its own number
 abbrev pub entered : List (Option Head) → Option Owned → List (Option Head)
 entered es None = es
 entered es (Some o) = set es (o .number .0) (preferred (getD es (o .number .0) None) (o .head))

@@ -18,6 +18,7 @@ use Rattle.records.specs.Heads.{headed, head-in}
 abbrev pub Tabled : ℕ → Memory → Sizes → Heads → Type 0
 Tabled count m p t = (n : ℕ) → head-in t n ≡ headed m (current count m p n)
 
+-- power is asked first
 abbrev pub Finds : ℕ → State → Sizes → Result Heads FlashFault → Type 0
 Finds k s p (Ok t) = (s .power ≡ true) × Tabled (s .count) (s .word) p t
 Finds k s p (Err f) = (s .power ≡ false) × (f ≡ unpowered k)

@@ -1,5 +1,4 @@
 //! Asking for power, and reading the words of a block.
-ghost use mathlib.Core.Path.{_≡_};
 ghost use Rattle.flash.specs.State.{Shaped};
 ghost use Rattle.records.specs.Answered.{Answers, Read};
 use flash::BlockNumber;

@@ -1,5 +1,4 @@
 //! The walk along a chain, and the check of a whole record.
-ghost use mathlib.Core.Path.{_≡_};
 ghost use Rattle.layout.specs.Sizes.{followers};
 ghost use Rattle.layout.specs.Sound.{leads as chain-leads, sound};
 ghost use Rattle.layout.specs.Plans.{sizes-of};

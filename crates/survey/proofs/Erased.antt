@@ -1,11 +1,9 @@
 -- The state of a block, from its erase marks.
 use mathlib.Core.Path.{_≡_, refl, sym}
-use mathlib.Core.Bool.{Bool, true, false}
+use mathlib.Core.Bool.{Bool, false}
 use Prim.Native.Nat.{ℕ}
-use Rattle.std.specs.declared.option.Option.{Option}
 use Rattle.std.specs.declared.option.Option.the-variants.{Some, None}
 use Rattle.flash.specs.State.{Words}
-use Rattle.layout.specs.declared.state.BlockState.the-variants.{HalfErased}
 use Rattle.layout.specs.Fields.{all-blank}
 use Rattle.layout.specs.States.{half-erased, clean, stated}
 

@@ -1,7 +1,7 @@
 -- Marks along a chain, and of all current records.
 use mathlib.Core.Path.{_≡_, refl, sym, ap, subst, _∙_}
-use mathlib.Core.Bool.{Bool, true, false, cond, _&&_, _||_}
-use mathlib.Core.List.{List, [], _∷_}
+use mathlib.Core.Bool.{Bool, true, false, cond, _||_}
+use mathlib.Core.List.{List, _∷_}
 use mathlib.Core.Logic.{_⊎_, inl, inr}
 use Prim.Native.Nat.{ℕ, zero, suc, _+_, _-_, _<_, _≤_}
 use native.Mathlib.Numerals.{add-one}
@@ -20,7 +20,7 @@ use Rattle.flash.specs.State.{State, Words, Memory}
 use Rattle.flash.specs.Commands.{reached}
 use Rattle.layout.specs.Sizes.{Sizes, numbers, size, followers}
 use Rattle.layout.specs.Fields.{chain, serial}
-use Rattle.layout.specs.Sound.{follows, leads, sound}
+use Rattle.layout.specs.Sound.{leads, sound}
 use Rattle.layout.specs.Records.{chained, blocks-at, better, best, current}
 use Rattle.layout.specs.States.{holds, within, some-below, in-use}
 use Rattle.layout.proofs.Loops.{left-suc, left-none}

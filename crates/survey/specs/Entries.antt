@@ -25,6 +25,7 @@ use Rattle.survey.specs.declared.table.Entry.{Entry}
 use Rattle.survey.specs.declared.table.Survey.{Survey}
 use Rattle.survey.specs.declared.table.Counts.{Counts}
 
+-- an entry with a state, or without one
 abbrev pub entry : Option BlockState → Entry
 entry o = record { state = o }
 
@@ -32,9 +33,11 @@ entry o = record { state = o }
 abbrev pub entry-in : Survey → ℕ → Option BlockState
 entry-in u b = cond (ltb b 256) (getD (u .entries) b (entry None) .state) None
 
+-- a block at or above the count has no state
 abbrev pub entry-of : ℕ → Memory → Sizes → ℕ → Option BlockState
 entry-of count m p b = cond (ltb b count) (Some (state count m p b)) None
 
+-- power is asked first
 abbrev pub Surveys : ℕ → State → Sizes → Result Survey FlashFault → Type 0
 Surveys k s p (Ok u) = (s .power ≡ true) × ((b : ℕ) → entry-in u b ≡ entry-of (s .count) (s .word) p b)
 Surveys k s p (Err f) = (s .power ≡ false) × (f ≡ unpowered k)
@@ -47,10 +50,12 @@ counted-with c (Some Free) = record { live = c .live; free = c .free + 1; «half
 counted-with c (Some HalfErased) = record { live = c .live; free = c .free; «half_erased» = c .«half_erased» + 1; spent = c .spent }
 counted-with c (Some Spent) = record { live = c .live; free = c .free; «half_erased» = c .«half_erased»; spent = c .spent + 1 }
 
+-- one by one, from the first on
 abbrev pub tally : List Entry → ℕ → Counts
 tally es zero = record { live = 0; free = 0; «half_erased» = 0; spent = 0 }
 tally es (suc n) = counted-with (tally es n) (getD es n (entry None) .state)
 
+-- by the definition of each state
 abbrev pub counts-of : ℕ → Memory → Sizes → Counts
 counts-of count m p =
     record { live = counted count m p Live; free = counted count m p Free; «half_erased» = counted count m p HalfErased; spent = counted count m p Spent }

@@ -25,6 +25,7 @@ used-in u b = cond (ltb b 256) (getD (u .marks) b false) false
 abbrev pub Marked : UsedBlocks → UsedBlocks → (ℕ → Bool) → Type 0
 Marked t u q = (length (u .marks) ≡ 256) × ((b : ℕ) → getD (u .marks) b false ≡ (q b || getD (t .marks) b false))
 
+-- power is asked first
 abbrev pub Marks : ℕ → State → UsedBlocks → UsedBlocks → (ℕ → Bool) → Result (Unit {0}) FlashFault → Type 0
 Marks k s t u q (Ok _) = (s .power ≡ true) × Marked t u q
 Marks k s t u q (Err f) = (s .power ≡ false) × (f ≡ unpowered k)

@@ -1,6 +1,6 @@
 -- What the head of a current record tells of the value of its number.
 use mathlib.Core.Path.{_≡_, refl, sym, ap, subst, _∙_}
-use mathlib.Core.Bool.{Bool, true, false}
+use mathlib.Core.Bool.{true, false}
 use mathlib.Core.List.{List, _++_}
 use Prim.Native.Nat.{ℕ, _<_, _≤_}
 use native.Mathlib.Omega.{arith}
@@ -15,7 +15,6 @@ use Rattle.layout.specs.Sound.{sound, candidate}
 use Rattle.layout.specs.Records.{current, Current, data-at, value}
 use Rattle.records.specs.declared.head.Head.{Head}
 use Rattle.records.specs.Heads.{head-at, headed}
-use Rattle.values.specs.declared.Copied.{Copied}
 use Rattle.values.specs.declared.Copied.the-variants.{Whole, NoValue, TooShort}
 use Rattle.values.specs.Copying.{Copying}
 

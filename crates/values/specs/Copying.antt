@@ -25,6 +25,7 @@ abbrev pub Copying : Option (List ℕ) → ℕ → List ℕ → Copied → List 
 Copying None z d x o = (x ≡ NoValue) × (o ≡ d)
 Copying (Some v) z d x o = When (leb z (length d)) ((x ≡ Whole) × (o ≡ v ++ drop z d)) ((x ≡ TooShort) × (o ≡ d))
 
+-- power is asked first
 abbrev pub Copies : ℕ → State → Sizes → ℕ → List ℕ → Result Copied FlashFault → List ℕ → Type 0
 Copies k s p n d (Ok x) o = (s .power ≡ true) × Copying (value (s .count) (s .word) p n) (size p n) d x o
 Copies k s p n d (Err f) o = (s .power ≡ false) × (f ≡ unpowered k) × (o ≡ d)

@@ -1,6 +1,6 @@
 -- Words that are programmed one by one: what they leave in their block, and the following blocks of a record in place.
 use mathlib.Core.Path.{_≡_, refl, sym, ap, subst, fun-ext, _∙_}
-use mathlib.Core.Bool.{Bool, true, false, cond, not, _&&_, _||_}
+use mathlib.Core.Bool.{Bool, true, false, cond, _&&_}
 use mathlib.Core.List.{List, [], _∷_, _++_, map}
 use mathlib.Core.Logic.{_⊎_, inl, inr}
 use Prim.Native.Nat.{ℕ, zero, suc, _+_, _-_, _*_, _<_, _≤_, min}
@@ -9,10 +9,9 @@ use lib.Dec.{eqb, leb, ltb}
 use lib.ListN.{length, take, drop, length-drop, take-append-drop}
 use Rattle.std.specs.Iters.{counting}
 use Rattle.std.specs.shelf.Lists.{All}
-use Rattle.std.specs.declared.option.Option.{Option}
 use Rattle.std.specs.declared.option.Option.the-variants.{Some, None}
 use Rattle.std.proofs.shelf.Lists.{drop-drop, drop-all}
-use Rattle.std.proofs.shelf.Tests.{and-from, or-left, or-right, or-parts, eq-eqb, ne-eqb, eqb-false, lt-ltb, cases-eq, cases-lt, both-ways, not-from-false}
+use Rattle.std.proofs.shelf.Tests.{and-from, or-left, or-right, or-parts, eq-eqb, eqb-false, lt-ltb, cases-eq, cases-lt, both-ways, not-from-false}
 use Rattle.std.proofs.shelf.Ways.{tells}
 use Rattle.flash.specs.State.{Words, Memory, put}
 use Rattle.flash.specs.Commands.{Command, program}
@@ -21,8 +20,9 @@ use Rattle.layout.specs.Sizes.{share, data-words}
 use Rattle.layout.specs.Fields.{chain, bytes, written, all-from}
 use Rattle.layout.specs.Sound.{follows, leads}
 use Rattle.layout.specs.Records.{data-from}
+use Rattle.layout.specs.States.{holds}
 use Rattle.writing.specs.Writing.{word-of, follow-bytes, programs, next-of, follow-commands}
-use Rattle.writing.specs.Law.{Bare, among, Distinct}
+use Rattle.writing.specs.Law.{Bare, Distinct}
 use Rattle.writing.proofs.Codec.{Small, follow-kind, follow-chain, follow-data}
 
 pub applied-append : (xs ys : List Command) (m : Memory) → applied-all (xs ++ ys) m ≡ applied-all ys (applied-all xs m)
@@ -71,28 +71,28 @@ module _ (s first : ℕ) (d : List ℕ) (small : Small d) where
       × (written (m c 15) ≡ true))
       × Image m (suc j) cs
 
-  pub image-same : (m m′ : Memory) (j : ℕ) (cs : List ℕ) → ((x : ℕ) → among cs x ≡ true → m′ x ≡ m x) → Image m j cs → Image m′ j cs
+  pub image-same : (m m′ : Memory) (j : ℕ) (cs : List ℕ) → ((x : ℕ) → holds cs x ≡ true → m′ x ≡ m x) → Image m j cs → Image m′ j cs
   image-same m m′ j [] e i = tt
   image-same m m′ j (c ∷ cs) e i =
-      let q : m′ c ≡ m c = e c (or-left (eqb c c) (among cs c) (eq-eqb c c refl)) in (
+      let q : m′ c ≡ m c = e c (or-left (eqb c c) (holds cs c) (eq-eqb c c refl)) in (
         (
           (λ w l. ap (λ (v : Words). v w) q ∙ i .0 .0 w l),
           (λ w l k. ap (λ (v : Words). v w) q ∙ i .0 .1 w l k),
           ap (λ (v : Words). written (v 15)) q ∙ i .0 .2,
         ),
-        image-same m m′ (suc j) cs (λ x h. e x (or-right (eqb c x) (among cs x) h)) (i .1),
+        image-same m m′ (suc j) cs (λ x h. e x (or-right (eqb c x) (holds cs x) h)) (i .1),
       )
 
   -- the following blocks are in place, and no other block changed
-  pub followed-others : (bs : List ℕ) (j : ℕ) (m : Memory) (x : ℕ) → among bs x ≡ false → applied-all (follow-commands s first d j bs) m x ≡ m x
+  pub followed-others : (bs : List ℕ) (j : ℕ) (m : Memory) (x : ℕ) → holds bs x ≡ false → applied-all (follow-commands s first d j bs) m x ≡ m x
   followed-others [] j m x h = refl
   followed-others (c ∷ cs) j m x h =
-      let q = or-parts (eqb c x) (among cs x) h in
+      let q = or-parts (eqb c x) (holds cs x) h in
       ap (λ (y : Memory). y x) (applied-append (programs c (follow-bytes s j (next-of first cs) d) (data-words s j)) (follow-commands s first d (suc j) cs) m)
       ∙ followed-others cs (suc j) _ x (q .1)
       ∙ programs-other c (follow-bytes s j (next-of first cs) d) (data-words s j) m x (λ e. eqb-false c x (q .0) (sym e))
 
-  pub followed : (bs : List ℕ) (j : ℕ) (m : Memory) → Distinct bs → ((x : ℕ) → among bs x ≡ true → Bare (m x)) → Image (applied-all (follow-commands s first d j bs) m) j bs
+  pub followed : (bs : List ℕ) (j : ℕ) (m : Memory) → Distinct bs → ((x : ℕ) → holds bs x ≡ true → Bare (m x)) → Image (applied-all (follow-commands s first d j bs) m) j bs
   followed [] j m dis bare = tt
   followed (c ∷ cs) j m dis bare =
       let l = follow-bytes s j (next-of first cs) d in
@@ -100,14 +100,14 @@ module _ (s first : ℕ) (d : List ℕ) (small : Small d) where
       let m₁ = applied-all (programs c l k) m in
       let whole = applied-append (programs c l k) (follow-commands s first d (suc j) cs) m in
       let same : applied-all (follow-commands s first d j (c ∷ cs)) m c ≡ m₁ c = ap (λ (y : Memory). y c) whole ∙ followed-others cs (suc j) m₁ c (dis .0) in
-      let here = bare c (or-left (eqb c c) (among cs c) (eq-eqb c c refl)) in (
+      let here = bare c (or-left (eqb c c) (holds cs c) (eq-eqb c c refl)) in (
         (
           (λ w h. ap (λ (v : Words). v w) same ∙ programs-here c l k m w h),
           (λ w h e. ap (λ (v : Words). v w) same ∙ programs-beyond c l k m w h ∙ here .0 w e),
           ap (λ (v : Words). written (v 15)) same ∙ ap written (programs-beyond c l k m 15 (omega (arith, words-high s j))) ∙ here .1,
         ),
         subst (λ (y : Memory). Image y (suc j) cs) (sym whole)
-            (followed cs (suc j) m₁ (dis .1) (λ x h. subst Bare (sym (programs-other c l k m x (λ e. both-ways (among cs c) (dis .0) (subst (λ (y : ℕ). among cs y ≡ true) e h)))) (bare x (or-right (eqb c x) (among cs x) h)))),
+            (followed cs (suc j) m₁ (dis .1) (λ x h. subst Bare (sym (programs-other c l k m x (λ e. both-ways (holds cs c) (dis .0) (subst (λ (y : ℕ). holds cs y ≡ true) e h)))) (bare x (or-right (eqb c x) (holds cs x) h)))),
       )
 
   -- what is in place is led through, and read back

@@ -1,11 +1,11 @@
 -- The commands of a record, done on free blocks, leave a sound record with its number, serial and data.
 use mathlib.Core.Path.{_≡_, refl, sym, ap, subst, fun-ext, _∙_}
-use mathlib.Core.Bool.{Bool, true, false, cond, not, _&&_}
+use mathlib.Core.Bool.{true, false}
 use mathlib.Core.List.{List, [], _∷_, _++_}
 use mathlib.Core.Logic.{_⊎_, inl, inr}
-use Prim.Native.Nat.{ℕ, _+_, _-_, _*_, _<_, _≤_, min}
+use Prim.Native.Nat.{ℕ, _+_, _-_, _<_, _≤_, min}
 use native.Mathlib.Omega.{arith}
-use lib.Dec.{eqb, leb, ltb}
+use lib.Dec.{eqb}
 use lib.ListN.{length, take, drop, take-append-drop}
 use Rattle.std.specs.shelf.Lists.{All}
 use Rattle.std.specs.declared.option.Option.{Option}
@@ -14,17 +14,18 @@ use Rattle.std.proofs.shelf.Lists.{drop-all}
 use Rattle.std.proofs.shelf.Tests.{and-from, or-left, or-right, or-parts, eq-eqb, ne-eqb, eqb-false, lt-ltb, cases-lt, both-ways, not-from-false}
 use Rattle.std.proofs.shelf.Ways.{tells}
 use Rattle.flash.specs.State.{Words, Memory, put}
-use Rattle.flash.specs.Commands.{Command, program}
+use Rattle.flash.specs.Commands.{program}
 use Rattle.flash.specs.Lists.{applied-all}
 use Rattle.clearing.specs.Clearing.{mark}
 use Rattle.layout.specs.Sizes.{Sizes, numbers, size, followers, first-share, head-words}
-use Rattle.layout.specs.Fields.{chain, number, serial, code, bytes, written}
+use Rattle.layout.specs.Fields.{chain, number, serial, bytes, written}
 use Rattle.layout.specs.Code.{code-of}
 use Rattle.layout.specs.Sound.{candidate, coded, leads, sound}
 use Rattle.layout.specs.Records.{data-from, data-at}
+use Rattle.layout.specs.States.{holds}
 use Rattle.writing.specs.Writing.{word-of, first-bytes, programs, next-of, follow-commands, first-commands, record-commands}
-use Rattle.writing.specs.Law.{Bare, among, Suits, Wrote, Sound-when-done}
-use Rattle.writing.proofs.Codec.{Small, first-kind, first-chain, first-number, first-serial, first-code, first-data}
+use Rattle.writing.specs.Law.{Bare, Suits, Wrote, Sound-when-done}
+use Rattle.writing.proofs.Codec.{first-kind, first-chain, first-number, first-serial, first-code, first-data}
 use Rattle.writing.proofs.Fill.{applied-append, all-from-by, programs-here, programs-beyond, programs-other, Image, image-same, image-leads, image-data, followed, followed-others}
 
 head-low : (s : ℕ) → 1 ≤ s → 3 ≤ head-words s
@@ -72,7 +73,7 @@ module _ (count : ℕ) (p : Sizes) (n s : ℕ) (d : List ℕ) (b : ℕ) (bs : Li
   at-b = followed-others (size p n) b d (suits .bytes) bs 0 m b (suits .apart .0)
 
   bare-b : Bare (m b)
-  bare-b = suits .free b (or-left (eqb b b) (among bs b) (eq-eqb b b refl))
+  bare-b = suits .free b (or-left (eqb b b) (holds bs b) (eq-eqb b b refl))
 
   high : k ≤ 13
   high = head-high (size p n)
@@ -131,13 +132,13 @@ module _ (count : ℕ) (p : Sizes) (n s : ℕ) (d : List ℕ) (b : ℕ) (bs : Li
   others : (x : ℕ) → (x ≡ b → ⊥) → (w : ℕ) → m′ x w ≡ m₀ x w
   others x h w = put-other m₁ b 13 (Some mark) x h w ∙ ap (λ (v : Words). v w) (programs-other b l k m₀ x h)
 
-  not-b : (x : ℕ) → among bs x ≡ true → x ≡ b → ⊥
-  not-b x h e = both-ways (among bs b) (suits .apart .0) (subst (λ (y : ℕ). among bs y ≡ true) e h)
+  not-b : (x : ℕ) → holds bs x ≡ true → x ≡ b → ⊥
+  not-b x h e = both-ways (holds bs b) (suits .apart .0) (subst (λ (y : ℕ). holds bs y ≡ true) e h)
 
   in-place : Image (size p n) b d (suits .bytes) m′ 0 bs
   in-place =
       image-same (size p n) b d (suits .bytes) m₀ m′ 0 bs (λ x h. fun-ext (others x (not-b x h)))
-      (followed (size p n) b d (suits .bytes) bs 0 m (suits .apart .1) (λ x h. suits .free x (or-right (eqb b x) (among bs x) h)))
+      (followed (size p n) b d (suits .bytes) bs 0 m (suits .apart .1) (λ x h. suits .free x (or-right (eqb b x) (holds bs x) h)))
 
   is-led : leads count m′ (size p n) b 0 (chain (m′ b)) (followers (size p n)) ≡ true
   is-led = rw (ch, sym (suits .enough)) (image-leads (size p n) b d (suits .bytes) count (suits .few) (suits .inside .0) m′ bs 0 (suits .inside .1) in-place)
@@ -161,9 +162,9 @@ module _ (count : ℕ) (p : Sizes) (n s : ℕ) (d : List ℕ) (b : ℕ) (bs : Li
           subst (λ (t : List ℕ). take (min (size p n) 41) d ++ t ≡ d) (drop-all (min (size p n) 41) d (omega arith) ∙ sym (drop-all 41 d (omega (arith, suits .sized)))) (take-append-drop (min (size p n) 41) d)
       join (inr h) = let z : min (size p n) 41 ≡ 41 = omega arith in subst (λ (t : ℕ). take (min (size p n) 41) d ++ drop t d ≡ d) z (take-append-drop (min (size p n) 41) d)
 
-  is-apart : (x : ℕ) → among (b ∷ bs) x ≡ false → m′ x ≡ m x
+  is-apart : (x : ℕ) → holds (b ∷ bs) x ≡ false → m′ x ≡ m x
   is-apart x h =
-      let q = or-parts (eqb b x) (among bs x) h in
+      let q = or-parts (eqb b x) (holds bs x) h in
       fun-ext (others x (λ e. eqb-false b x (q .0) (sym e))) ∙ followed-others (size p n) b d (suits .bytes) bs 0 m x (q .1)
 
   written-so : Wrote count p n s d b bs m m′

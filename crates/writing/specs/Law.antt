@@ -4,10 +4,9 @@
 --     Counts z r         a record of z bytes takes r commands
 --     Sound-when-done    the law: the record is sound, is read back as it was given, and no other block changes
 use mathlib.Core.Path.{_≡_}
-use mathlib.Core.Bool.{Bool, true, false, _||_}
+use mathlib.Core.Bool.{true, false}
 use mathlib.Core.List.{List, [], _∷_}
 use Prim.Native.Nat.{ℕ, _<_, _≤_, _^_}
-use lib.Dec.{eqb}
 use lib.ListN.{length}
 use Rattle.std.specs.shelf.Lists.{All}
 use Rattle.std.specs.declared.option.Option.the-variants.{None}
@@ -17,20 +16,17 @@ use Rattle.layout.specs.Sizes.{Sizes, Planned, numbers, size, followers}
 use Rattle.layout.specs.Fields.{serial, written}
 use Rattle.layout.specs.Sound.{sound}
 use Rattle.layout.specs.Records.{data-at}
+use Rattle.layout.specs.States.{holds}
 use Rattle.writing.specs.Writing.{record-commands}
 
+-- all words but erase end are blank
 abbrev pub Bare : Words → Type 0
 Bare u = ((w : ℕ) → (w ≡ 15 → ⊥) → u w ≡ None) × (written (u 15) ≡ true)
-
--- whether a list has a block
-abbrev pub among : List ℕ → ℕ → Bool
-among [] b = false
-among (x ∷ xs) b = eqb x b || among xs b
 
 -- no block twice
 abbrev pub Distinct : List ℕ → Type 0
 Distinct [] = Unit {0}
-Distinct (c ∷ cs) = (among cs c ≡ false) × Distinct cs
+Distinct (c ∷ cs) = (holds cs c ≡ false) × Distinct cs
 
 -- the first block is b, the following ones are bs
 pub record Suits (count : ℕ) (p : Sizes) (n s : ℕ) (d : List ℕ) (b : ℕ) (bs : List ℕ) (m : Memory) : Type 0 where
@@ -43,15 +39,16 @@ pub record Suits (count : ℕ) (p : Sizes) (n s : ℕ) (d : List ℕ) (b : ℕ) 
   pub enough : length bs ≡ followers (size p n)
   pub inside : All (λ x. x < count) (b ∷ bs)
   pub apart : Distinct (b ∷ bs)
-  pub free : (x : ℕ) → among (b ∷ bs) x ≡ true → Bare (m x)
+  pub free : (x : ℕ) → holds (b ∷ bs) x ≡ true → Bare (m x)
 
 -- number and block are those that the record was written for, serial and data those that it was given
 pub record Wrote (count : ℕ) (p : Sizes) (n s : ℕ) (d : List ℕ) (b : ℕ) (bs : List ℕ) (m m′ : Memory) : Type 0 where
   pub whole : sound count m′ p n b ≡ true
   pub numbered : serial (m′ b) ≡ s
   pub kept : data-at m′ p n b ≡ d
-  pub others : (x : ℕ) → among (b ∷ bs) x ≡ false → m′ x ≡ m x
+  pub others : (x : ℕ) → holds (b ∷ bs) x ≡ false → m′ x ≡ m x
 
+-- whatever the flash held elsewhere
 abbrev pub Sound-when-done : Type 0
 Sound-when-done =
     (count : ℕ) (p : Sizes) (n s : ℕ) (d : List ℕ) (b : ℕ) (bs : List ℕ) (m : Memory) → Suits count p n s d b bs m

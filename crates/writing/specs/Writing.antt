@@ -46,6 +46,7 @@ follow-commands s first d j [] = []
 follow-commands s first d j (b ∷ bs) =
     programs b (follow-bytes s j (next-of first bs) d) (data-words s j) ++ follow-commands s first d (suc j) bs
 
+-- the words of the first block, and then write end
 unfoldable pub first-commands : Sizes → ℕ → ℕ → List ℕ → ℕ → ℕ → List Command
 first-commands p n s d b next = programs b (first-bytes p n s next d) (head-words (size p n)) ++ (program b 13 mark ∷ [])
 

@@ -1,7 +1,6 @@
 //! Making a plan, and asking it for sizes.
 ghost use mathlib.Core.Path.{_≡_};
-ghost use Prim.Native.Nat.{ℕ, _<_, _≤_};
-ghost use lib.ListN.{length, getD};
+ghost use Prim.Native.Nat.{_<_, _≤_};
 ghost use Rattle.std.specs.Results.{Cases};
 ghost use Rattle.std.specs.Options.{Cases as BySome};
 ghost use Rattle.layout.specs.Sizes.{Planned, numbers, size as size-in};

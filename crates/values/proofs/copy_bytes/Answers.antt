@@ -1,6 +1,5 @@
-use mathlib.Core.Path.{ap, _∙_}
+-- What is left to show of `copy_bytes`.
 use native.Mathlib.Omega.{arith}
-use lib.Seq.{paste}
 use Rattle.std.proofs.shelf.Edits.{paste-none}
 use Rattle.layout.specs.Fields.{bytes}
 use Rattle.layout.specs.Reads.{words-of}

@@ -1,3 +1,4 @@
+-- What holds at each turn of the loop of `copy_bytes`.
 use mathlib.Core.Path.{_≡_}
 use lib.Seq.{paste}
 use Rattle.layout.specs.Fields.{bytes}

@@ -1,6 +1,5 @@
 -- One block more.
 use native.Mathlib.Omega.{arith}
-use Rattle.layout.specs.Sizes.{followers}
 use Rattle.writing.specs.Writing.{commands-of}
 use Rattle.writing.proofs.Counted.{counted-more, counted-all}
 use Rattle.writing.proofs.count_words.Needs as need

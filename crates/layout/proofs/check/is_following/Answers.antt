@@ -1,3 +1,4 @@
+-- What is left to show of `is_following`.
 use native.Mathlib.Omega.{arith}
 use Rattle.std.proofs.shelf.Ways.{tells}
 use Rattle.layout.specs.Sound.{follows}

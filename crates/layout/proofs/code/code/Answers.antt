@@ -1,3 +1,4 @@
+-- What is left to show of `code`.
 use mathlib.Core.Path.{ap}
 use lib.ListN.{getD}
 use Rattle.layout.proofs.Loops.{code-steps}

@@ -1,5 +1,6 @@
+-- What holds at each turn of the loop of `crc_byte`.
 use mathlib.Core.Path.{_≡_}
-use Prim.Native.Nat.{_-_, _*_}
+use Prim.Native.Nat.{_-_}
 use Rattle.layout.specs.Code.{crc-bits}
 use Rattle.layout.proofs.code.crc_byte.Given as given
 

@@ -1,7 +1,5 @@
 -- One block on, and the whole table.
-use Prim.Native.Nat.{_≤_}
 use native.Mathlib.Omega.{arith}
-use lib.ListN.{length}
 use Rattle.layout.specs.Plans.{sizes-of}
 use Rattle.layout.proofs.Planning.{front-few}
 use Rattle.records.proofs.Owners.{table-more, table-all, below-all}

@@ -1,10 +1,8 @@
 -- Each test decides whether the block is a sound first block of its own number.
 use mathlib.Core.Path.{sym, _∙_}
-use Prim.Native.Nat.{_<_, _≤_}
 use native.Mathlib.Omega.{arith}
 use Rattle.layout.specs.Plans.{sizes-of}
-use Rattle.layout.specs.Reads.{words-of}
-use Rattle.records.proofs.Chains.{beyond-unsound, unplanned-unsound, unchecked-unsound, checked-sound}
+use Rattle.records.proofs.Chains.{unplanned-unsound, unchecked-unsound, checked-sound}
 use Rattle.records.proofs.Owners.{owner-none, owner-some, owner-beyond}
 use Rattle.records.proofs.pass.owned_by.Needs as need
 

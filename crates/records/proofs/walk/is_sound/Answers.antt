@@ -1,7 +1,6 @@
 -- Each test decides the whole, and the walk the rest.
 use mathlib.Core.Path.{subst}
 use mathlib.Core.Bool.{Bool}
-use Prim.Native.Nat.{_<_, _≤_}
 use native.Mathlib.Omega.{arith}
 use Rattle.records.specs.Answered.{Answers}
 use Rattle.records.proofs.Chains.{beyond-unsound, unplanned-unsound, unchecked-unsound, checked-sound}

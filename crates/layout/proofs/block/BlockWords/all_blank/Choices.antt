@@ -1,3 +1,4 @@
+-- What holds at each turn of the loop of `all_blank`.
 use mathlib.Core.Path.{_≡_}
 use Prim.Native.Nat.{_-_}
 use Rattle.layout.specs.Fields.{all-from, blank}

@@ -1,3 +1,4 @@
+-- What is left to show of `chain`.
 use native.Mathlib.Omega.{arith}
 use Rattle.layout.specs.Fields.{chain}
 use Rattle.layout.proofs.block.BlockWords.chain.Needs as need

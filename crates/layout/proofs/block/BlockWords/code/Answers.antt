@@ -1,3 +1,4 @@
+-- What is left to show of `code`.
 use native.Mathlib.Omega.{arith}
 use Rattle.layout.specs.Fields.{code}
 use Rattle.layout.proofs.block.BlockWords.code.Needs as need

@@ -1,3 +1,4 @@
+-- What is left to show of `kind`.
 use Rattle.layout.specs.Fields.{kind-of}
 use Rattle.layout.proofs.block.BlockWords.kind.Needs as need
 

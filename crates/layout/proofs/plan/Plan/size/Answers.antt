@@ -1,9 +1,7 @@
 -- A number below the count has its entry's size.
 use mathlib.Core.Path.{sym}
-use Prim.Native.Nat.{_<_, _≤_}
+use Prim.Native.Nat.{_<_}
 use native.Mathlib.Omega.{arith}
-use Rattle.layout.specs.Sizes.{numbers}
-use Rattle.layout.specs.Plans.{sizes-of}
 use Rattle.layout.proofs.Planning.{front-numbers, front-size}
 use Rattle.layout.proofs.plan.Plan.size.Needs as need
 

@@ -1,4 +1,6 @@
--- Lemmas: reading a block, walking along a chain, and the table of heads.
+-- Lemmas: reading a block, walking along a chain, the table of heads, and what a block stands for by its own words.
 pub mod Sixteen
 pub mod Chains
 pub mod Owners
+pub mod Erased
+pub mod Stood

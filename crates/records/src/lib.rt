@@ -2,4 +2,5 @@
 pub mod head;
 pub mod pass;
 pub mod reading;
+pub mod state;
 pub mod walk;

@@ -1,26 +1,31 @@
 //! One pass over the blocks finds every current record.
 ghost use mathlib.Core.Path.{_≡_};
 ghost use Prim.Native.Nat.{ℕ, _<_};
-ghost use lib.ListN.{length, getD};
+ghost use lib.ListN.{length, getD, set};
 ghost use Rattle.std.specs.Options.{Cases as BySome};
-ghost use Rattle.std.specs.declared.option.Option.the-variants.{None};
+ghost use Rattle.std.specs.declared.option.Option.the-variants.{Some, None};
 ghost use Rattle.layout.specs.Records.{current as current-of, Current};
 ghost use Rattle.layout.specs.Plans.{sizes-of};
+ghost use Rattle.layout.specs.Reads.{words-of};
 ghost use Rattle.records.specs.Answered.{Answers};
 ghost use Rattle.records.specs.Heads.{owner, head-in, entered};
-ghost use Rattle.records.specs.Tables.{Finds};
+ghost use Rattle.records.specs.Tables.{Finds, Scans, standing-in};
 use crate::head::Head;
 use crate::head::Heads;
 use crate::head::Owned;
+use crate::head::Scan;
 use crate::reading::ask_power;
 use crate::reading::read_block;
+use crate::state::state_of;
 use crate::walk::leads;
 use flash::BlockNumber;
 use flash::Flash;
 use flash::fault::FlashFault;
+use layout::block::BlockWords;
 use layout::check::is_first_block;
 use layout::plan::DataNumber;
 use layout::plan::Plan;
+use layout::state::BlockState;
 
 /// The sound record whose first block this is, if any.
 pub fn owned_by<F: Flash>(
@@ -35,11 +40,26 @@ pub fn owned_by<F: Flash>(
         return Ok(None);
     }
     let words = read_block(flash, block)?;
+    owner_of(flash, plan, block, &words)
+}
+
+// The same, from the words of the block.
+fn owner_of<F: Flash>(
+    flash: &F,
+    plan: &Plan,
+    block: BlockNumber,
+    words: &BlockWords,
+) -> Result<Option<Owned>, FlashFault>
+    requires read { ⌜ words-of (now words) ≡ model .meaning (now flash) .word (block .0) ⌝ }
+    requires inside { ⌜ block .0 < model .meaning (now flash) .count ⌝ }
+    ensures { λ r. ⌜ Answers (model .kind) (model .meaning (now (flash .entry))) (owner (model .meaning (now (flash .entry)) .count) (model .meaning (now (flash .entry)) .word) (sizes-of (now (plan .entry))) (block .0)) r ⌝ }
+{
+    ask_power(flash)?;
     let number = words.number();
     let Some(size) = plan.size(number) else {
         return Ok(None);
     };
-    if !is_first_block(plan, number, &words) {
+    if !is_first_block(plan, number, words) {
         return Ok(None);
     }
     if !leads(flash, size, block, words.chain())? {
@@ -104,11 +124,51 @@ pub fn current_heads<F: Flash>(flash: &F, plan: &Plan) -> Result<Heads, FlashFau
 fn find_heads<F: Flash>(flash: &F, plan: &Plan) -> Result<Heads, FlashFault>
     ensures { λ r. ⌜ Finds (model .kind) (model .meaning (now (flash .entry))) (sizes-of (now (plan .entry))) r ⌝ }
 {
-    ask_power(flash)?;
-    let mut heads = Heads::none();
-    for b in 0..flash.block_count() {
-        let owned = owned_by(flash, plan, BlockNumber(b))?;
-        heads.enter(owned);
+    Ok(scan(flash, plan)?.heads)
+}
+
+impl Scan {
+    fn none() -> Scan
+        ensures { λ r. ⌜ (length (r .heads .entries) ≡ 64) × ((n : ℕ) → getD (r .heads .entries) n None ≡ None) × (length (r .standings) ≡ 256) × ((b : ℕ) → getD (r .standings) b None ≡ None) ⌝ }
+    {
+        Scan {
+            heads: Heads::none(),
+            standings: [None; 256],
+        }
     }
-    Ok(heads)
+
+    // Notes what a block is by its own words; the 255 others stay.
+    fn note(&mut self, block: BlockNumber, state: BlockState)
+        requires { ⌜ block .0 < 256 ⌝ }
+        ensures standings { λ _. ⌜ now (self .exit) .standings ≡ set (now (self .entry) .standings) (block .0) (Some state) ⌝ }
+        ensures heads { λ _. ⌜ now (self .exit) .heads ≡ now (self .entry) .heads ⌝ }
+    {
+        self.standings[block.0 as usize] = Some(state);
+    }
+
+    /// What a block is by its own words, if the flash has it.
+    pub fn standing(&self, block: BlockNumber) -> Option<BlockState>
+        ensures { λ r. ⌜ r ≡ standing-in (now (self .entry)) (block .0) ⌝ }
+    {
+        if block.0 >= 256 {
+            return None;
+        }
+        self.standings[block.0 as usize]
+    }
+}
+
+/// One pass over the blocks: the current records, and what each block is by its own words. Each block is read once, apart from the walks along chains.
+pub fn scan<F: Flash>(flash: &F, plan: &Plan) -> Result<Scan, FlashFault>
+    ensures { λ r. ⌜ Scans (model .kind) (model .meaning (now (flash .entry))) (sizes-of (now (plan .entry))) r ⌝ }
+{
+    ask_power(flash)?;
+    let mut found = Scan::none();
+    for b in 0..flash.block_count() {
+        let block = BlockNumber(b);
+        let words = read_block(flash, block)?;
+        let owned = owner_of(flash, plan, block, &words)?;
+        found.heads.enter(owned);
+        found.note(block, state_of(&words, false));
+    }
+    Ok(found)
 }

@@ -13,7 +13,7 @@ use Rattle.std.specs.declared.option.Option.the-variants.{Some, None}
 use Rattle.std.proofs.shelf.Tests.{cases-eq, cases-lt, lt-ltb, le-ltb, cond-true, cond-false}
 use Rattle.std.proofs.shelf.Lists.{getD-set-same, getD-set-other, length-set}
 use Rattle.std.proofs.shelf.Ways.{tells}
-use Rattle.flash.specs.State.{Words, Memory}
+use Rattle.flash.specs.State.{Memory}
 use Rattle.layout.specs.declared.state.BlockState.{BlockState}
 use Rattle.layout.specs.declared.state.BlockState.the-variants.{Live, Free, HalfErased, Spent}
 use Rattle.layout.specs.Sizes.{Sizes}
@@ -21,7 +21,8 @@ use Rattle.layout.specs.States.{half-erased, clean, in-use, stated, state}
 use Rattle.survey.specs.declared.table.Entry.{Entry}
 use Rattle.survey.specs.declared.table.Survey.{Survey}
 use Rattle.survey.specs.declared.table.Counts.{Counts}
-use Rattle.survey.specs.Entries.{entry, entry-in, entry-of, counted-with, tally, Few}
+use Rattle.records.specs.Tables.{standing, standing-of}
+use Rattle.survey.specs.Entries.{entry, entry-in, entry-of, settle, settled, counted-with, tally, Few}
 
 -- the entry of block k, where the blocks below b have theirs
 abbrev entry-below : ℕ → Memory → Sizes → ℕ → ℕ → Option BlockState
@@ -37,16 +38,24 @@ here count m p b = let e : ltb b (b + 1) ≡ true = lt-ltb b (b + 1) (omega arit
 there : (count : ℕ) (m : Memory) (p : Sizes) (b k : ℕ) → (k ≡ b → ⊥) → entry-below count m p b k ≡ entry-below count m p (b + 1) k
 there count m p b k ne = ap (λ (t : Bool). cond t (Some (state count m p k)) None) (let z : ltb k b ≡ ltb k (b + 1) = grind (arith, tells) in z)
 
-pub surveyed-more : (count : ℕ) (m : Memory) (p : Sizes) (b : ℕ) (u v : Survey) (w : Words) (i : Bool) (x : BlockState) → b < 256 → Surveyed count m p b u
-    → w ≡ m b → i ≡ in-use count m p b → x ≡ stated (half-erased w) (clean w) i → v .entries ≡ set (u .entries) b (entry (Some x)) → Surveyed count m p (b + 1) v
+settles : (h c u : Bool) → settle (stated h c false) u ≡ stated h c u
+settles true c u = refl
+settles false true u = refl
+settles false false true = refl
+settles false false false = refl
+
+pub surveyed-more : (count : ℕ) (m : Memory) (p : Sizes) (b : ℕ) (u v : Survey) (o x : Option BlockState) (i : Bool) → b < 256 → b < count → Surveyed count m p b u
+    → o ≡ standing-of count m b → i ≡ in-use count m p b → x ≡ settled o i → v .entries ≡ set (u .entries) b (entry x) → Surveyed count m p (b + 1) v
 unfolding state
-surveyed-more count m p b u v w i x lb h e q f g =
-    let y : x ≡ state count m p b = f ∙ rw (e, q) refl in
+surveyed-more count m p b u v o x i lb lc h e q f g =
+    let t : ltb b count ≡ true = lt-ltb b count lc in
+    let known : o ≡ Some (standing (m b)) = e ∙ rw t refl in
+    let y : x ≡ Some (state count m p b) = f ∙ ap (λ (z : Option BlockState). settled z i) known ∙ ap (λ (z : Bool). Some (settle (standing (m b)) z)) q ∙ ap Some (settles (half-erased (m b)) (clean (m b)) (in-use count m p b)) in
     let lu : b < length (u .entries) = omega (arith, h .0) in (
       ap length g ∙ length-set (u .entries) b _ ∙ h .0,
       λ k. ap (λ (l : List Entry). getD l k (entry None) .state) g ∙ elim (cases-eq k b) [
-        | inl z ↦ rw z (ap (λ (z : Entry). z .state) (getD-set-same (u .entries) b (entry (Some x)) (entry None) lu) ∙ ap Some y ∙ here count m p b)
-        | inr z ↦ ap (λ (z : Entry). z .state) (getD-set-other (u .entries) b k (entry (Some x)) (entry None) z) ∙ h .1 k ∙ there count m p b k z
+        | inl z ↦ rw z (ap (λ (z : Entry). z .state) (getD-set-same (u .entries) b (entry x) (entry None) lu) ∙ y ∙ here count m p b)
+        | inr z ↦ ap (λ (z : Entry). z .state) (getD-set-other (u .entries) b k (entry x) (entry None) z) ∙ h .1 k ∙ there count m p b k z
       ],
     )
 

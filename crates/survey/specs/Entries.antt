@@ -2,10 +2,11 @@
 --     entry-in u b           the entry of block b
 --     entry-of count m p b   what it is to be: the state of block b, none at or above the block count
 --     Surveys k s p r        the answer r is a table of these, or the flash's own fault where power is off
+--     settled o u            what a block is, from what it is by its own words and whether a current record has it
 --     tally es n             how many of the first n entries there are of each state
 --     counts-of count m p    how many blocks of the flash there are of each state
 use mathlib.Core.Path.{_≡_}
-use mathlib.Core.Bool.{true, false, cond}
+use mathlib.Core.Bool.{Bool, true, false, cond}
 use mathlib.Core.List.{List}
 use Prim.Native.Nat.{ℕ, zero, suc, _+_, _<_}
 use lib.Dec.{ltb}
@@ -41,6 +42,19 @@ entry-of count m p b = cond (ltb b count) (Some (state count m p b)) None
 abbrev pub Surveys : ℕ → State → Sizes → Result Survey FlashFault → Type 0
 Surveys k s p (Ok u) = (s .power ≡ true) × ((b : ℕ) → entry-in u b ≡ entry-of (s .count) (s .word) p b)
 Surveys k s p (Err f) = (s .power ≡ false) × (f ≡ unpowered k)
+
+-- a block that a current record has is live where it would be spent
+abbrev pub settle : BlockState → Bool → BlockState
+settle Spent true = Live
+settle Spent false = Spent
+settle Live u = Live
+settle Free u = Free
+settle HalfErased u = HalfErased
+
+-- no state where there is no block
+abbrev pub settled : Option BlockState → Bool → Option BlockState
+settled None u = None
+settled (Some s) u = Some (settle s u)
 
 -- one entry more: one without a state counts nowhere
 abbrev pub counted-with : Counts → Option BlockState → Counts

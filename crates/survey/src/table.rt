@@ -2,7 +2,7 @@
 ghost use mathlib.Core.Path.{_≡_};
 ghost use Prim.Native.Nat.{ℕ, _<_};
 ghost use lib.ListN.{length, getD, set};
-ghost use Rattle.std.specs.declared.option.Option.the-variants.{None, Some};
+ghost use Rattle.std.specs.declared.option.Option.the-variants.{None};
 ghost use Rattle.survey.specs.Entries.{entry as entry-with, entry-in, counted-with, tally, Few};
 use flash::BlockNumber;
 use layout::state::BlockState;
@@ -78,11 +78,11 @@ impl Survey {
     }
 
     // Marks one entry; the 255 others stay.
-    fn mark(&mut self, block: BlockNumber, state: BlockState)
+    fn mark(&mut self, block: BlockNumber, state: Option<BlockState>)
         requires { ⌜ block .0 < 256 ⌝ }
-        ensures { λ _. ⌜ now (self .exit) .entries ≡ set (now (self .entry) .entries) (block .0) (entry-with (Some state)) ⌝ }
+        ensures { λ _. ⌜ now (self .exit) .entries ≡ set (now (self .entry) .entries) (block .0) (entry-with state) ⌝ }
     {
-        self.entries[block.0 as usize] = Entry { state: Some(state) };
+        self.entries[block.0 as usize] = Entry { state };
     }
 
     /// How many blocks there are of each state.

@@ -8,6 +8,7 @@ ghost use Rattle.layout.specs.Records.{chained, current as current-of};
 ghost use Rattle.layout.specs.States.{holds, within};
 ghost use Rattle.layout.specs.Plans.{sizes-of};
 ghost use Rattle.records.specs.Heads.{headed};
+ghost use Rattle.records.specs.Tables.{Tabled};
 ghost use Rattle.survey.specs.Used.{used-in, Marks, Uses};
 use flash::BlockNumber;
 use flash::Flash;
@@ -16,6 +17,7 @@ use layout::plan::DataNumber;
 use layout::plan::Plan;
 use layout::sizes::follower_count;
 use records::head::Head;
+use records::head::Heads;
 use records::pass::current_heads;
 use records::reading::ask_power;
 use records::reading::read_block;
@@ -104,8 +106,20 @@ fn mark_record<F: Flash>(
 pub fn used_blocks<F: Flash>(flash: &F, plan: &Plan) -> Result<UsedBlocks, FlashFault>
     ensures { λ r. ⌜ Uses (model .kind) (model .meaning (now (flash .entry))) (sizes-of (now (plan .entry))) r ⌝ }
 {
-    ask_power(flash)?;
     let heads = current_heads(flash, plan)?;
+    mark_all(flash, plan, &heads)
+}
+
+// The same, from the table of heads.
+pub(crate) fn mark_all<F: Flash>(
+    flash: &F,
+    plan: &Plan,
+    heads: &Heads,
+) -> Result<UsedBlocks, FlashFault>
+    requires { ⌜ Tabled (model .meaning (now flash) .count) (model .meaning (now flash) .word) (sizes-of (now plan)) (now heads) ⌝ }
+    ensures { λ r. ⌜ Uses (model .kind) (model .meaning (now (flash .entry))) (sizes-of (now (plan .entry))) r ⌝ }
+{
+    ask_power(flash)?;
     let mut used = UsedBlocks::none();
     for n in 0..plan.count() {
         let number = DataNumber(n);

@@ -13,9 +13,9 @@ loop-b-holds g c =
 pub loop-b-again : need.loop-b-again
 loop-b-again g c =
     let s = g .F·Flash .model .meaning (c .args .flash .now) in
-    surveyed-more (s .count) (s .word) (sizes-of (c .args .plan .now)) (c .loop-b .b) (c .loop-b .survey) (c .mark .last .self) _ (c .contains .result) (c .state-of .result)
-    (omega (arith, c .block-count-b-end .ensures .shape .few)) (c .loop-b .inv) (c .in-Continue-words .ensures tt .1)
-    (c .contains .ensures ∙ c .in-Continue-used .ensures tt .1 (c .loop-b .b)) (c .state-of .ensures) (c .mark .ensures)
+    surveyed-more (s .count) (s .word) (sizes-of (c .args .plan .now)) (c .loop-b .b) (c .loop-b .survey) (c .mark .last .self) (c .standing .result) (c .settled .result) (c .contains .result)
+    (omega (arith, c .block-count-b-end .ensures .shape .few)) (omega arith) (c .loop-b .inv) (c .standing .ensures ∙ c .in-Continue-found .ensures tt .2 (c .loop-b .b))
+    (c .contains .ensures ∙ c .in-Continue-used .ensures tt .1 (c .loop-b .b)) (c .settled .ensures) (c .mark .ensures)
 
 pub returns : need.returns
 returns g c =

@@ -4,10 +4,10 @@ use native.Mathlib.Omega.{arith}
 use Rattle.layout.specs.Sizes.{numbers}
 use Rattle.layout.specs.Plans.{sizes-of}
 use Rattle.survey.proofs.Walks.{used-more, used-all}
-use Rattle.survey.proofs.used.used_blocks.Needs as need
+use Rattle.survey.proofs.used.mark_all.Needs as need
 
 pub mark-record-requires : need.mark-record-requires
-mark-record-requires g c κs = record { planned = omega arith; whole = c .loop-n .inv .0; current = c .current .ensures ∙ c .in-Continue-heads .ensures tt .answer .1 (c .loop-n .n) }
+mark-record-requires g c κs = record { planned = omega arith; whole = c .loop-n .inv .0; current = c .current .ensures ∙ c .pre (c .loop-n .n) }
 
 pub loop-n-again : need.loop-n-again
 loop-n-again g c =

@@ -2,8 +2,8 @@
 use mathlib.Core.Path.{refl}
 use mathlib.Core.Bool.{true, false}
 use Rattle.layout.specs.Reads.{words-of}
-use Rattle.survey.proofs.Erased.{not-half, is-clean, stated-as}
-use Rattle.survey.proofs.state.state_of.Needs as need
+use Rattle.records.proofs.Erased.{not-half, is-clean, stated-as}
+use Rattle.records.proofs.state.state_of.Needs as need
 
 pub returns-in-None-Some : need.returns-in-None-Some
 returns-in-None-Some c =

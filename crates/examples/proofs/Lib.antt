@@ -1,0 +1,2 @@
+-- Lemmas: the examples, computed.
+pub mod Computed

@@ -1,0 +1,2 @@
+-- Worked examples of the layout.
+pub mod Worked

@@ -1,0 +1,2 @@
+-- What the program shows of a block.
+pub mod Letters

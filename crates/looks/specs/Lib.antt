@@ -1,0 +1,2 @@
+-- What a flash that counts its looks is.
+pub mod Counting

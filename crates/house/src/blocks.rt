@@ -50,7 +50,11 @@ fn print_counts(rt: &LibcRuntime, counts: Counts) -> io::Result<()> {
 }
 
 /// Prints the states of the blocks and their counts.
-pub fn print_all<F: Flash>(rt: &LibcRuntime, flash: &F, plan: &Plan) -> Result<(), AnyError> {
+pub(crate) fn print_all<F: Flash>(
+    rt: &LibcRuntime,
+    flash: &F,
+    plan: &Plan,
+) -> Result<(), AnyError> {
     match survey(flash, plan) {
         Ok(survey) => {
             print_letters(rt, &survey, flash.block_count())?;

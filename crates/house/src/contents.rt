@@ -40,7 +40,11 @@ fn print_value<F: Flash>(
 }
 
 /// Prints a line for each data number of the plan.
-pub fn print_all<F: Flash>(rt: &LibcRuntime, flash: &F, plan: &Plan) -> Result<(), AnyError> {
+pub(crate) fn print_all<F: Flash>(
+    rt: &LibcRuntime,
+    flash: &F,
+    plan: &Plan,
+) -> Result<(), AnyError> {
     for n in 0..plan.count() {
         print_value(rt, flash, plan, DataNumber(n))?;
     }

@@ -2,5 +2,6 @@
 pub mod Sixteen
 pub mod Chains
 pub mod Owners
+pub mod Headed
 pub mod Erased
 pub mod Stood

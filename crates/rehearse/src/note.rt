@@ -21,7 +21,7 @@ fn note_word(w: u8) -> Option<u32> {
 }
 
 /// What the task leaves in a word, if anything, where the note is kept in block `home`.
-pub fn given(home: BlockNumber, block: BlockNumber, word: u8) -> Option<u32> {
+pub(crate) fn given(home: BlockNumber, block: BlockNumber, word: u8) -> Option<u32> {
     if word == ERASE_END {
         return Some(MARK);
     }
@@ -43,7 +43,7 @@ fn write<F: Flash>(flash: &mut F, home: BlockNumber) -> Result<(), FlashFault> {
 }
 
 /// Clears every block and programs the note, up to the first command that is not done.
-pub fn keep<F: Flash>(flash: &mut F, home: BlockNumber) -> Result<(), FlashFault> {
+pub(crate) fn keep<F: Flash>(flash: &mut F, home: BlockNumber) -> Result<(), FlashFault> {
     for b in 0..flash.block_count() {
         clear(flash, BlockNumber(b))?;
     }

@@ -57,7 +57,11 @@ fn print_row<F: Flash>(
 }
 
 /// Prints a row for each block, where the note is kept in block `home`.
-pub fn print_all<F: Flash>(rt: &LibcRuntime, flash: &F, home: BlockNumber) -> io::Result<()> {
+pub(crate) fn print_all<F: Flash>(
+    rt: &LibcRuntime,
+    flash: &F,
+    home: BlockNumber,
+) -> io::Result<()> {
     for b in 0..flash.block_count() {
         print_row(rt, flash, home, BlockNumber(b))?;
     }

@@ -1,8 +1,8 @@
 -- Marks along a chain, and of all current records.
 use mathlib.Core.Path.{_≡_, refl, sym, ap, subst, _∙_}
-use mathlib.Core.Bool.{Bool, true, false, cond, _||_}
+use mathlib.Core.Bool.{Bool, true, false, _||_}
 use mathlib.Core.List.{List, _∷_}
-use mathlib.Core.Logic.{_⊎_, inl, inr}
+use mathlib.Core.Logic.{inl, inr}
 use Prim.Native.Nat.{ℕ, zero, suc, _+_, _-_, _<_, _≤_}
 use native.Mathlib.Numerals.{add-one}
 use native.Mathlib.Omega.{arith}
@@ -17,15 +17,15 @@ use Rattle.std.proofs.shelf.Lists.{getD-set-same, getD-set-other, getD-past, le
 use Rattle.std.proofs.shelf.Ways.{tells}
 use Rattle.flash.specs.declared.fault.FlashFault.{FlashFault}
 use Rattle.flash.specs.State.{State, Words, Memory}
-use Rattle.flash.specs.Commands.{reached}
 use Rattle.layout.specs.Sizes.{Sizes, numbers, size, followers}
-use Rattle.layout.specs.Fields.{chain, serial}
+use Rattle.layout.specs.Fields.{chain}
 use Rattle.layout.specs.Sound.{leads, sound}
-use Rattle.layout.specs.Records.{chained, blocks-at, better, best, current}
+use Rattle.layout.specs.Records.{chained, blocks-at, current}
 use Rattle.layout.specs.States.{holds, within, some-below, in-use}
 use Rattle.layout.proofs.Loops.{left-suc, left-none}
 use Rattle.records.specs.declared.head.Head.{Head}
-use Rattle.records.specs.Heads.{headed, head-at}
+use Rattle.records.specs.Heads.{headed}
+use Rattle.records.proofs.Headed.{headed-none, head-is, head-sound, head-inside}
 use Rattle.survey.specs.declared.used.UsedBlocks.{UsedBlocks}
 use Rattle.survey.specs.Used.{used-in, Marked, Marks}
 
@@ -33,10 +33,6 @@ use Rattle.survey.specs.Used.{used-in, Marked, Marks}
 pub marks-weaker : (k : ℕ) (s : State) (t v u : UsedBlocks) (q q′ : ℕ → Bool) (r : Result (Unit {0}) FlashFault) → (Marked v u q → Marked t u q′) → Marks k s v u q r → Marks k s t u q′ r
 marks-weaker k s t v u q q′ (Ok _) f h = (h .0, f (h .1))
 marks-weaker k s t v u q q′ (Err _) f h = h
-
--- a block of a flash with power is not refused
-pub not-refused : (k : ℕ) (s : State) (b : ℕ) (f : FlashFault) → s .power ≡ true → b < s .count → reached k s b 0 ≡ Err f → ⊥
-not-refused k s b f on i h = grind (arith, tells)
 
 turn : (a p q : Bool) → (p || (a || q)) ≡ ((a || p) || q)
 turn true true q = refl
@@ -116,45 +112,13 @@ leads-below count m s b j c (suc l) h x e =
       | inr q ↦ let z : eqb c x ≡ false = ne-eqb c x q in leads-below count m s b (suc j) (chain (m c)) l on x (ap (λ (t : Bool). t || holds (chained m (chain (m c)) l) x) (sym z) ∙ e)
     ]
 
--- a best block passes the test
-better-or : (m : Memory) (o : Option ℕ) (k b : ℕ) (x : Bool) → better m o k x ≡ Some b → (o ≡ Some b) ⊎ ((x ≡ true) × (k ≡ b))
-better-or m o k b false h = inl h
-better-or m None k b true h = inr (refl, cc)
-better-or m (Some c) k b true h = go (ltb (serial (m c)) (serial (m k))) h
-  where
-    go : (y : Bool) → cond y (Some k) (Some c) ≡ Some b → (_≡_ {A = Option ℕ} (Some c) (Some b)) ⊎ ((_≡_ {A = Bool} true true) × (k ≡ b))
-    go true q = inr (refl, cc)
-    go false q = inl q
-
-best-passes : (t : ℕ → Bool) (m : Memory) (k b : ℕ) → best t m k ≡ Some b → (b < k) × (t b ≡ true)
-best-passes t m zero b h = absurd (let z : _≡_ {A = ℕ} 0 1 = cc in omega arith)
-best-passes t m (suc k) b h = elim (better-or m (best t m k) k b (t k) h) [
-  | inl q ↦ let r = best-passes t m k b q in (omega (arith, r .0), r .1)
-  | inr q ↦ (omega (arith, q .1), subst (λ (i : ℕ). t i ≡ true) (q .1) (q .0))
-]
-
-headed-some : (m : Memory) (o : Option ℕ) (h : Head) → Some h ≡ headed m o → o ≡ Some (h .block .0)
-headed-some m None h e = absurd (let z : _≡_ {A = ℕ} 0 1 = cc in omega arith)
-headed-some m (Some b) h e = let q : h ≡ head-at m b = cc in ap Some (sym (ap (λ (x : Head). x .block .0) q))
-
-headed-none : (m : Memory) (o : Option ℕ) → None ≡ headed m o → o ≡ None
-headed-none m None e = refl
-headed-none m (Some b) e = absurd (let z : _≡_ {A = ℕ} 0 1 = cc in omega arith)
-
 module _ (count : ℕ) (m : Memory) (p : Sizes) (n : ℕ) (h : Head) (e : Some h ≡ headed m (current count m p n)) where
-  head-is : current count m p n ≡ Some (h .block .0)
-  head-is = headed-some m (current count m p n) h e
-
-  head-sound : (h .block .0 < count) × (sound count m p n (h .block .0) ≡ true)
-  unfolding current
-  head-sound = best-passes (sound count m p n) m count (h .block .0) head-is
-
   pub head-below : h .block .0 < count
-  head-below = head-sound .0
+  head-below = head-inside count m p n h e
 
   head-led : leads count m (size p n) (h .block .0) 0 (chain (m (h .block .0))) (followers (size p n)) ≡ true
   unfolding sound
-  head-led = let s = head-sound .1 in grind (arith, tells)
+  head-led = let s = head-sound count m p n h e in grind (arith, tells)
 
   pub chain-below : (c s : ℕ) (w : Words) → w ≡ m (h .block .0) → c ≡ chain w → s ≡ size p n → Below count (chained m c (followers s))
   chain-below c s w q r z =
@@ -176,7 +140,7 @@ module _ (count : ℕ) (m : Memory) (p : Sizes) (n : ℕ) (h : Head) (e : Some h
             k .1 x ∙ ap (λ (z : Bool). holds (chained m c (followers s)) x || z) y ∙ turn (eqb b x) _ _
             ∙ ap (λ (y : ℕ). holds (b ∷ chained m y (followers s)) x || getD (t .marks) x false) i
             ∙ ap (λ (y : ℕ). holds (b ∷ chained m (chain (m b)) (followers y)) x || getD (t .marks) x false) z
-            ∙ ap (λ (o : Option ℕ). within m p n o x || getD (t .marks) x false) (sym head-is),
+            ∙ ap (λ (o : Option ℕ). within m p n o x || getD (t .marks) x false) (sym (head-is count m p n h e)),
       )
 
 pub none-marked : (count : ℕ) (m : Memory) (p : Sizes) (n : ℕ) (t : UsedBlocks) → None ≡ headed m (current count m p n) → length (t .marks) ≡ 256 → Marked t t (within m p n (current count m p n))

@@ -2,7 +2,8 @@
 use mathlib.Core.Path.{_∙_}
 use native.Mathlib.Omega.{arith}
 use Rattle.layout.specs.Plans.{sizes-of}
-use Rattle.values.proofs.Found.{nothing-copied, head-sound, head-planned, too-short, all-copied}
+use Rattle.records.proofs.Headed.{head-sound, head-planned}
+use Rattle.values.proofs.Found.{nothing-copied, too-short, all-copied}
 use Rattle.values.proofs.copy_value.Needs as need
 
 pub returns-in-rest : need.returns-in-rest
@@ -18,7 +19,7 @@ returns-in-rest-size g c =
     absurd (omega (
       arith,
       c .in-rest-size .ensures tt,
-      head-planned (s .count) (s .word) (sizes-of (c .args .plan .now)) (c .args .number .0) (c .args .out .now) (c .in-Some .head) (c .in-Some .ensures tt ∙ table .1 (c .args .number .0)) (c .in-Continue-heads .ensures tt .law (c .args .number .0)),
+      head-planned (s .count) (s .word) (sizes-of (c .args .plan .now)) (c .args .number .0) (c .in-Some .head) (c .in-Some .ensures tt ∙ table .1 (c .args .number .0)),
     ))
 
 pub returns-then-out-size : need.returns-then-out-size
@@ -37,7 +38,7 @@ copy-record-requires g c κs =
     let sized = c .in-Some-size .ensures tt in (
       (sized .1, sized .3, omega arith),
       (
-        head-sound (s .count) (s .word) (sizes-of (c .args .plan .now)) (c .args .number .0) (c .args .out .now) (c .in-Some .head) (c .in-Some .ensures tt ∙ table .1 (c .args .number .0)) (c .in-Continue-heads .ensures tt .law (c .args .number .0)),
+        head-sound (s .count) (s .word) (sizes-of (c .args .plan .now)) (c .args .number .0) (c .in-Some .head) (c .in-Some .ensures tt ∙ table .1 (c .args .number .0)),
         table .0,
       ),
     )

@@ -1,6 +1,7 @@
 -- One block on, and the whole chain.
 use native.Mathlib.Omega.{arith}
-use Rattle.survey.proofs.Walks.{not-refused, walk-none, walk-below, walk-more, walk-all}
+use Rattle.records.proofs.Sixteen.{not-refused}
+use Rattle.survey.proofs.Walks.{walk-none, walk-below, walk-more, walk-all}
 use Rattle.survey.proofs.used.mark_following.Needs as need
 
 pub loop-j-holds : need.loop-j-holds

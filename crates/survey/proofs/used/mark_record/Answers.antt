@@ -7,7 +7,8 @@ use Rattle.layout.specs.Sizes.{followers}
 use Rattle.layout.specs.Records.{chained}
 use Rattle.layout.specs.States.{holds}
 use Rattle.layout.specs.Plans.{sizes-of}
-use Rattle.survey.proofs.Walks.{marks-weaker, not-refused, head-below, chain-below, record-marked, none-marked}
+use Rattle.records.proofs.Sixteen.{not-refused}
+use Rattle.survey.proofs.Walks.{marks-weaker, head-below, chain-below, record-marked, none-marked}
 use Rattle.survey.proofs.used.mark_record.Needs as need
 
 pub returns-in-rest : need.returns-in-rest

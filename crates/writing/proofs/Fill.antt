@@ -19,7 +19,7 @@ use Rattle.flash.specs.Lists.{applied-all}
 use Rattle.layout.specs.Sizes.{share, data-words}
 use Rattle.layout.specs.Fields.{chain, bytes, written, all-from}
 use Rattle.layout.specs.Sound.{follows, leads}
-use Rattle.layout.specs.Records.{data-from}
+use Rattle.layout.specs.Records.{chained, data-from}
 use Rattle.layout.specs.States.{holds}
 use Rattle.writing.specs.Writing.{word-of, follow-bytes, programs, next-of, follow-commands}
 use Rattle.writing.specs.Law.{Bare, Distinct}
@@ -47,8 +47,8 @@ module _ (c : ℕ) (l : List ℕ) (k : ℕ) (m : Memory) where
   pub programs-here : (w : ℕ) → w < k → applied-all (programs c l k) m c w ≡ Some (word-of l w)
   programs-here w h = programmed c l k 0 m c w ∙ grind (arith, tells)
 
-  pub programs-beyond : (w : ℕ) → k ≤ w → applied-all (programs c l k) m c w ≡ m c w
-  programs-beyond w h = programmed c l k 0 m c w ∙ grind (arith, tells)
+  pub programs-beyond : (x w : ℕ) → k ≤ w → applied-all (programs c l k) m x w ≡ m x w
+  programs-beyond x w h = programmed c l k 0 m x w ∙ grind (arith, tells)
 
   pub programs-other : (x : ℕ) → (x ≡ c → ⊥) → applied-all (programs c l k) m x ≡ m x
   programs-other x h = fun-ext (λ w. programmed c l k 0 m x w ∙ grind (arith, tells))
@@ -60,6 +60,11 @@ words-low s j = omega arith
 words-high : (s j : ℕ) → data-words s j ≤ 14
 unfolding data-words share
 words-high s j = omega arith
+
+-- a block that the chain names has a number of two bytes
+pub next-small : (count first : ℕ) → count ≤ 256 → first < count → (l : List ℕ) → All (λ x. x < count) l → next-of first l < 65536
+next-small count first big lf [] q = omega arith
+next-small count first big lf (y ∷ ys) q = omega (arith, q .0)
 
 module _ (s first : ℕ) (d : List ℕ) (small : Small d) where
   -- the following blocks in place
@@ -92,6 +97,14 @@ module _ (s first : ℕ) (d : List ℕ) (small : Small d) where
       ∙ followed-others cs (suc j) _ x (q .1)
       ∙ programs-other c (follow-bytes s j (next-of first cs) d) (data-words s j) m x (λ e. eqb-false c x (q .0) (sym e))
 
+  -- no erase mark changed
+  pub followed-beyond : (bs : List ℕ) (j : ℕ) (m : Memory) (x w : ℕ) → 13 < w → applied-all (follow-commands s first d j bs) m x w ≡ m x w
+  followed-beyond [] j m x w h = refl
+  followed-beyond (c ∷ cs) j m x w h =
+      ap (λ (y : Memory). y x w) (applied-append (programs c (follow-bytes s j (next-of first cs) d) (data-words s j)) (follow-commands s first d (suc j) cs) m)
+      ∙ followed-beyond cs (suc j) _ x w h
+      ∙ programs-beyond c (follow-bytes s j (next-of first cs) d) (data-words s j) m x w (omega (arith, words-high s j))
+
   pub followed : (bs : List ℕ) (j : ℕ) (m : Memory) → Distinct bs → ((x : ℕ) → holds bs x ≡ true → Bare (m x)) → Image (applied-all (follow-commands s first d j bs) m) j bs
   followed [] j m dis bare = tt
   followed (c ∷ cs) j m dis bare =
@@ -103,8 +116,8 @@ module _ (s first : ℕ) (d : List ℕ) (small : Small d) where
       let here = bare c (or-left (eqb c c) (holds cs c) (eq-eqb c c refl)) in (
         (
           (λ w h. ap (λ (v : Words). v w) same ∙ programs-here c l k m w h),
-          (λ w h e. ap (λ (v : Words). v w) same ∙ programs-beyond c l k m w h ∙ here .0 w e),
-          ap (λ (v : Words). written (v 15)) same ∙ ap written (programs-beyond c l k m 15 (omega (arith, words-high s j))) ∙ here .1,
+          (λ w h e. ap (λ (v : Words). v w) same ∙ programs-beyond c l k m c w h ∙ here .0 w e),
+          ap (λ (v : Words). written (v 15)) same ∙ ap written (programs-beyond c l k m c 15 (omega (arith, words-high s j))) ∙ here .1,
         ),
         subst (λ (y : Memory). Image y (suc j) cs) (sym whole)
             (followed cs (suc j) m₁ (dis .1) (λ x h. subst Bare (sym (programs-other c l k m x (λ e. both-ways (holds cs c) (dis .0) (subst (λ (y : ℕ). holds cs y ≡ true) e h)))) (bare x (or-right (eqb c x) (holds cs x) h)))),
@@ -130,12 +143,15 @@ module _ (s first : ℕ) (d : List ℕ) (small : Small d) where
   image-leads count big lf m (c ∷ cs) j a i =
       and-from _ _ (and-from _ _ (lt-ltb c count (a .0)) (image-follows m j c (next-of first cs) (i .0)))
       (subst (λ (x : ℕ). leads count m s first (suc j) x (length cs) ≡ true)
-      (sym (follow-chain (m c) s j (next-of first cs) d small (bound cs (a .1)) (i .0 .0 0 (omega (arith, words-low s j)))))
+      (sym (follow-chain (m c) s j (next-of first cs) d small (next-small count first big lf cs (a .1)) (i .0 .0 0 (omega (arith, words-low s j)))))
       (image-leads count big lf m cs (suc j) (a .1) (i .1)))
-    where
-      bound : (l : List ℕ) → All (λ x. x < count) l → next-of first l < 65536
-      bound [] q = omega arith
-      bound (y ∷ ys) q = let z = q .0 in omega arith
+
+  pub image-chained : (count : ℕ) → count ≤ 256 → first < count → (m : Memory) (bs : List ℕ) (j : ℕ) → All (λ x. x < count) bs → Image m j bs
+      → chained m (next-of first bs) (length bs) ≡ bs
+  image-chained count big lf m [] j a i = refl
+  image-chained count big lf m (c ∷ cs) j a i =
+      let ch : chain (m c) ≡ next-of first cs = follow-chain (m c) s j (next-of first cs) d small (next-small count first big lf cs (a .1)) (i .0 .0 0 (omega (arith, words-low s j))) in
+      ap (λ (t : List ℕ). c ∷ t) (ap (λ x. chained m x (length cs)) ch ∙ image-chained count big lf m cs (suc j) (a .1) (i .1))
 
   pub image-data : (count : ℕ) → count ≤ 256 → first < count → (m : Memory) (bs : List ℕ) (j : ℕ) → All (λ x. x < count) bs → Image m j bs
       → length d ≡ s → s ≤ 41 + 53 * j + 53 * length bs
@@ -144,14 +160,10 @@ module _ (s first : ℕ) (d : List ℕ) (small : Small d) where
   image-data count big lf m [] j a i e q = sym (drop-all (41 + 53 * j) d (omega arith))
   image-data count big lf m (c ∷ cs) j a i e q =
       let rest : data-from m s (suc j) (next-of first cs) (length cs) ≡ drop (41 + 53 * suc j) d = image-data count big lf m cs (suc j) (a .1) (i .1) e (omega arith) in
-      let ch : chain (m c) ≡ next-of first cs = follow-chain (m c) s j (next-of first cs) d small (bound cs (a .1)) (i .0 .0 0 (omega (arith, words-low s j))) in
+      let ch : chain (m c) ≡ next-of first cs = follow-chain (m c) s j (next-of first cs) d small (next-small count first big lf cs (a .1)) (i .0 .0 0 (omega (arith, words-low s j))) in
       let da : bytes (m c) 3 (share s j) ≡ take (share s j) (drop (41 + 53 * j) d) = follow-data (m c) s j (next-of first cs) d small (omega arith) (i .0 .0) in
       rw (da, ch, rest) join
     where
-      bound : (l : List ℕ) → All (λ x. x < count) l → next-of first l < 65536
-      bound [] z = omega arith
-      bound (y ∷ ys) z = let v = z .0 in omega arith
-
       -- 53 bytes or all that are left, and then the rest
       split : (k n : ℕ) (xs : List ℕ) → k ≡ min (length xs) n → take k xs ++ drop n xs ≡ xs
       split k n xs h = go (cases-lt (length xs) n)

@@ -21,12 +21,12 @@ use Rattle.layout.specs.Sizes.{Sizes, numbers, size, followers, first-share, he
 use Rattle.layout.specs.Fields.{chain, number, serial, bytes, written}
 use Rattle.layout.specs.Code.{code-of}
 use Rattle.layout.specs.Sound.{candidate, coded, leads, sound}
-use Rattle.layout.specs.Records.{data-from, data-at}
+use Rattle.layout.specs.Records.{blocks-at, data-from, data-at}
 use Rattle.layout.specs.States.{holds}
 use Rattle.writing.specs.Writing.{word-of, first-bytes, programs, next-of, follow-commands, first-commands, record-commands}
 use Rattle.writing.specs.Law.{Bare, Suits, Wrote, Sound-when-done}
 use Rattle.writing.proofs.Codec.{first-kind, first-chain, first-number, first-serial, first-code, first-data}
-use Rattle.writing.proofs.Fill.{applied-append, all-from-by, programs-here, programs-beyond, programs-other, Image, image-same, image-leads, image-data, followed, followed-others}
+use Rattle.writing.proofs.Fill.{applied-append, all-from-by, programs-here, programs-beyond, programs-other, Image, image-same, image-leads, image-chained, image-data, next-small, followed, followed-others, followed-beyond}
 
 head-low : (s : ℕ) → 1 ≤ s → 3 ≤ head-words s
 unfolding head-words first-share
@@ -39,8 +39,8 @@ head-high s = omega arith
 put-other : (m : Memory) (b w : ℕ) (x : Option ℕ) (c : ℕ) → (c ≡ b → ⊥) → (v : ℕ) → put m b w x c v ≡ m c v
 put-other m b w x c h v = let e : eqb b c ≡ false = ne-eqb b c (λ q. h (sym q)) in rw e
 
-put-word : (m : Memory) (b w : ℕ) (x : Option ℕ) (v : ℕ) → (v ≡ w → ⊥) → put m b w x b v ≡ m b v
-put-word m b w x v h = grind (arith, tells)
+put-word : (m : Memory) (b w : ℕ) (x : Option ℕ) (c v : ℕ) → (v ≡ w → ⊥) → put m b w x c v ≡ m c v
+put-word m b w x c v h = grind (arith, tells)
 
 put-here : (m : Memory) (b w : ℕ) (x : Option ℕ) → put m b w x b w ≡ x
 put-here m b w x = grind (arith, tells)
@@ -82,16 +82,16 @@ module _ (count : ℕ) (p : Sizes) (n s : ℕ) (d : List ℕ) (b : ℕ) (bs : Li
   low = head-low (size p n) (suits .planned .sized n (suits .known) .0)
 
   filled : (w : ℕ) → w < k → m′ b w ≡ Some (word-of l w)
-  filled w h = put-word m₁ b 13 (Some mark) w (omega (arith, high)) ∙ programs-here b l k m₀ w h
+  filled w h = put-word m₁ b 13 (Some mark) b w (omega (arith, high)) ∙ programs-here b l k m₀ w h
 
   beyond : (w : ℕ) → k ≤ w → (w ≡ 13 → ⊥) → (w ≡ 15 → ⊥) → m′ b w ≡ None
-  beyond w h e f = put-word m₁ b 13 (Some mark) w e ∙ programs-beyond b l k m₀ w h ∙ ap (λ (v : Words). v w) at-b ∙ bare-b .0 w f
+  beyond w h e f = put-word m₁ b 13 (Some mark) b w e ∙ programs-beyond b l k m₀ b w h ∙ ap (λ (v : Words). v w) at-b ∙ bare-b .0 w f
 
   ended : m′ b 13 ≡ Some mark
   ended = put-here m₁ b 13 (Some mark)
 
   over : written (m′ b 15) ≡ true
-  over = ap written (put-word m₁ b 13 (Some mark) 15 (omega arith) ∙ programs-beyond b l k m₀ 15 (omega (arith, high)) ∙ ap (λ (v : Words). v 15) at-b) ∙ bare-b .1
+  over = ap written (put-word m₁ b 13 (Some mark) b 15 (omega arith) ∙ programs-beyond b l k m₀ b 15 (omega (arith, high)) ∙ ap (λ (v : Words). v 15) at-b) ∙ bare-b .1
 
   at : (w : ℕ) → w < 3 → m′ b w ≡ Some (word-of l w)
   at w h = filled w (omega (arith, low))
@@ -122,12 +122,8 @@ module _ (count : ℕ) (p : Sizes) (n s : ℕ) (d : List ℕ) (b : ℕ) (bs : Li
   unfolding coded
   is-coded = eq-eqb _ _ (first-code (m′ b) p n s next d (suits .bytes) (at 2 (omega arith)) ∙ ap (λ x. code-of x s) (sym num) ∙ ap (code-of (number (m′ b))) (sym ser))
 
-  next-small : (xs : List ℕ) → All (λ x. x < count) xs → next-of b xs < 65536
-  next-small [] q = omega (arith, suits .inside .0, suits .few)
-  next-small (y ∷ ys) q = omega (arith, q .0, suits .few)
-
   ch : chain (m′ b) ≡ next
-  ch = first-chain (m′ b) p n s next d (suits .bytes) (next-small bs (suits .inside .1)) (at 0 (omega arith))
+  ch = first-chain (m′ b) p n s next d (suits .bytes) (next-small count b (suits .few) (suits .inside .0) bs (suits .inside .1)) (at 0 (omega arith))
 
   others : (x : ℕ) → (x ≡ b → ⊥) → (w : ℕ) → m′ x w ≡ m₀ x w
   others x h w = put-other m₁ b 13 (Some mark) x h w ∙ ap (λ (v : Words). v w) (programs-other b l k m₀ x h)
@@ -167,8 +163,20 @@ module _ (count : ℕ) (p : Sizes) (n s : ℕ) (d : List ℕ) (b : ℕ) (bs : Li
       let q = or-parts (eqb b x) (holds bs x) h in
       fun-ext (others x (λ e. eqb-false b x (q .0) (sym e))) ∙ followed-others (size p n) b d (suits .bytes) bs 0 m x (q .1)
 
+  is-placed : blocks-at m′ p n b ≡ b ∷ bs
+  unfolding blocks-at
+  is-placed =
+      rw (ch, sym (suits .enough))
+      (ap (λ (t : List ℕ). b ∷ t) (image-chained (size p n) b d (suits .bytes) count (suits .few) (suits .inside .0) m′ bs 0 (suits .inside .1) in-place))
+
+  is-marked : (x w : ℕ) → 13 < w → m′ x w ≡ m x w
+  is-marked x w h =
+      put-word m₁ b 13 (Some mark) x w (omega arith)
+      ∙ programs-beyond b l k m₀ x w (omega (arith, high))
+      ∙ followed-beyond (size p n) b d (suits .bytes) bs 0 m x w h
+
   written-so : Wrote count p n s d b bs m m′
-  written-so = record { whole = is-sound; numbered = ser; kept = is-kept; others = is-apart }
+  written-so = record { whole = is-sound; numbered = ser; kept = is-kept; placed = is-placed; marks = is-marked; others = is-apart }
 
 pub sound-when-done : Sound-when-done
 sound-when-done count p n s d b bs m suits =

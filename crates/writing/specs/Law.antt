@@ -2,7 +2,8 @@
 --     Bare u             a free block's words: blank but for erase end
 --     Suits ..           number, serial, data and blocks suit the plan and the flash
 --     Counts z r         a record of z bytes takes r commands
---     Sound-when-done    the law: the record is sound, is read back as it was given, and no other block changes
+--     Wrote ..           the record stands in its blocks as it was given, and no other word changed
+--     Sound-when-done    the law: the commands of a record leave that
 use mathlib.Core.Path.{_≡_}
 use mathlib.Core.Bool.{true, false}
 use mathlib.Core.List.{List, [], _∷_}
@@ -15,7 +16,7 @@ use Rattle.flash.specs.Lists.{applied-all}
 use Rattle.layout.specs.Sizes.{Sizes, Planned, numbers, size, followers}
 use Rattle.layout.specs.Fields.{serial, written}
 use Rattle.layout.specs.Sound.{sound}
-use Rattle.layout.specs.Records.{data-at}
+use Rattle.layout.specs.Records.{blocks-at, data-at}
 use Rattle.layout.specs.States.{holds}
 use Rattle.writing.specs.Writing.{record-commands}
 
@@ -41,11 +42,13 @@ pub record Suits (count : ℕ) (p : Sizes) (n s : ℕ) (d : List ℕ) (b : ℕ) 
   pub apart : Distinct (b ∷ bs)
   pub free : (x : ℕ) → holds (b ∷ bs) x ≡ true → Bare (m x)
 
--- number and block are those that the record was written for, serial and data those that it was given
+-- the record is sound, with the serial, data and blocks that it was given; no erase mark and no other block changes
 pub record Wrote (count : ℕ) (p : Sizes) (n s : ℕ) (d : List ℕ) (b : ℕ) (bs : List ℕ) (m m′ : Memory) : Type 0 where
   pub whole : sound count m′ p n b ≡ true
   pub numbered : serial (m′ b) ≡ s
   pub kept : data-at m′ p n b ≡ d
+  pub placed : blocks-at m′ p n b ≡ b ∷ bs
+  pub marks : (x w : ℕ) → 13 < w → m′ x w ≡ m x w
   pub others : (x : ℕ) → holds (b ∷ bs) x ≡ false → m′ x ≡ m x
 
 -- whatever the flash held elsewhere

@@ -7,7 +7,7 @@ use layout::sizes::follower_count;
 use layout::sizes::head_word_count;
 
 /// How many commands write a record of this size, whatever its data and its blocks.
-/// Done on free blocks, they leave a sound record with its number, serial and data, and no other block changed.
+/// Done on free blocks, they leave a sound record with its number, serial, data and blocks, and no other word changed.
 pub fn command_count(size: u16) -> u32
     ensures count { λ r. ⌜ r ≡ commands-of size ⌝ }
     ensures lists { λ r. ⌜ Counts size r ⌝ }

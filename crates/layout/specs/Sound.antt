@@ -1,4 +1,5 @@
 -- Sound records: which blocks of a flash hold a complete record.
+--     type-number t              the byte that stands for the type t of a block
 --     first-type s               the type of the first block of a record of s bytes
 --     candidate p n m            the words m are those of a first block of number n, apart from its code and its chain
 --     coded m                    the code is right
@@ -9,19 +10,27 @@ use mathlib.Core.Bool.{Bool, cond, _&&_}
 use Prim.Native.Nat.{ℕ, zero, suc}
 use lib.Dec.{eqb, leb, ltb}
 use Rattle.flash.specs.State.{Words, Memory}
+use Rattle.layout.specs.declared.block_type.BlockType.{BlockType}
+use Rattle.layout.specs.declared.block_type.BlockType.the-variants.{Short, Long, Following}
 use Rattle.layout.specs.Sizes.{Sizes, numbers, size, followers, head-words, data-words}
 use Rattle.layout.specs.Fields.{kind-of, chain, number, serial, code, written, blank, all-written, all-blank}
 use Rattle.layout.specs.Code.{code-of}
 
--- 1 short, up to 41 bytes; 2 long
-abbrev pub first-type : ℕ → ℕ
-first-type s = cond (leb s 41) 1 2
+-- the only block of a short record, the first one of a long record, a following one
+abbrev pub type-number : BlockType → ℕ
+type-number Short = 1
+type-number Long = 2
+type-number Following = 3
+
+-- up to 41 bytes are short
+abbrev pub first-type : ℕ → BlockType
+first-type s = cond (leb s 41) Short Long
 
 -- the type suits the size, the number is the plan's and the one asked for, the head words are written and those after them blank, write end and erase end are written, erase start is blank
 unfoldable pub candidate : Sizes → ℕ → Words → Bool
 candidate p n m =
     ltb n (numbers p)
-    && eqb (kind-of m) (first-type (size p n))
+    && eqb (kind-of m) (type-number (first-type (size p n)))
     && eqb (number m) n
     && all-written m 0 (head-words (size p n))
     && all-blank m (head-words (size p n)) 13
@@ -33,10 +42,10 @@ candidate p n m =
 unfoldable pub coded : Words → Bool
 coded m = eqb (code m) (code-of (number m) (serial m))
 
--- type 3, the data words written and those after them blank, erase start blank and erase end written
+-- the type of a following block, the data words written and those after them blank, erase start blank and erase end written
 unfoldable pub follows : ℕ → ℕ → Words → Bool
 follows s j m =
-    eqb (kind-of m) 3
+    eqb (kind-of m) (type-number Following)
     && all-written m 0 (data-words s j)
     && all-blank m (data-words s j) 14
     && blank (m 14)

@@ -5,6 +5,7 @@ ghost use Rattle.layout.specs.Sound.{candidate, coded, follows};
 ghost use Rattle.layout.specs.Plans.{sizes-of};
 ghost use Rattle.layout.specs.Reads.{words-of};
 use crate::block::BlockWords;
+use crate::block_type::BlockType;
 use crate::code::code;
 use crate::plan::DataNumber;
 use crate::plan::Plan;
@@ -31,7 +32,7 @@ pub fn is_first_block(plan: &Plan, number: DataNumber, block: &BlockWords) -> bo
     let Some(fields) = block.fields() else {
         return false;
     };
-    if fields.kind != first_type_of(size) {
+    if fields.kind != first_type_of(size).number() {
         return false;
     }
     if fields.number.0 != number.0 {
@@ -60,7 +61,7 @@ pub fn is_first_block(plan: &Plan, number: DataNumber, block: &BlockWords) -> bo
 pub fn is_following(size: u16, j: u16, block: &BlockWords) -> bool
     ensures { λ r. ⌜ r ≡ follows size j (words-of (now (block .entry))) ⌝ }
 {
-    if block.kind() != 3 {
+    if block.kind() != BlockType::Following.number() {
         return false;
     }
     let words = data_word_count(size, j);

@@ -38,7 +38,7 @@ impl BlockWords {
         word.to_le_bytes()[k as usize % 4]
     }
 
-    /// The type: 1 short, 2 long, 3 following.
+    /// The number of the type.
     pub fn kind(&self) -> u8
         ensures { λ r. ⌜ r ≡ kind-of (words-of (now (self .entry))) ⌝ }
     {

@@ -3,6 +3,7 @@ ghost use mathlib.Core.Path.{_≡_};
 ghost use Prim.Native.Nat.{_≤_};
 ghost use Rattle.layout.specs.Sizes.{followers, first-share, share as share-of, head-words, data-words};
 ghost use Rattle.layout.specs.Sound.{first-type};
+use crate::block_type::BlockType;
 
 // Bytes of data in a first block, and in a following one.
 const FIRST: u16 = 41;
@@ -51,9 +52,13 @@ pub fn data_word_count(size: u16, j: u16) -> u8
     (2 + share(size, j)) / 4 + 1
 }
 
-/// The type of the first block of a record of this size: 1 short, 2 long.
-pub fn first_type_of(size: u16) -> u8
+/// The type of the first block of a record of this size.
+pub fn first_type_of(size: u16) -> BlockType
     ensures { λ r. ⌜ r ≡ first-type size ⌝ }
 {
-    if size <= FIRST { 1 } else { 2 }
+    if size <= FIRST {
+        BlockType::Short
+    } else {
+        BlockType::Long
+    }
 }

@@ -16,7 +16,9 @@ use Rattle.flash.specs.State.{Words}
 use Rattle.layout.specs.Sizes.{Sizes, size, first-share, share, head-words, data-words}
 use Rattle.layout.specs.Fields.{low, held, byte, kind-of, chain, number, serial, code, bytes}
 use Rattle.layout.specs.Code.{crc-bit, crc-bits, crc-byte, crc-from, crc, low-bytes, code-of}
-use Rattle.layout.specs.Sound.{first-type}
+use Rattle.layout.specs.declared.block_type.BlockType.{BlockType}
+use Rattle.layout.specs.declared.block_type.BlockType.the-variants.{Short, Long}
+use Rattle.layout.specs.Sound.{type-number, first-type}
 use Rattle.writing.specs.Writing.{word-of, first-bytes, follow-bytes}
 
 abbrev pub Small : List ℕ → Type 0
@@ -85,7 +87,7 @@ code-lt n s = crc-from-lt (low-bytes 2 n ++ low-bytes 4 s) 65535 (all-append (λ
 pub first-small : (p : Sizes) (n s next : ℕ) (d : List ℕ) → Small d → Small (first-bytes p n s next d)
 unfolding first-bytes
 first-small p n s next d h = (
-  cond-both (leb (size p n) 41) 1 2 (λ x. x < 256) (λ e. omega arith) (λ e. omega arith),
+  cond-both (leb (size p n) 41) Short Long (λ (t : BlockType). type-number t < 256) (λ e. omega arith) (λ e. omega arith),
   all-append (λ x. x < 256) (low-bytes 2 next ++ low-bytes 2 n ++ low-bytes 4 s ++ low-bytes 2 (code-of n s)) (take (first-share (size p n)) d)
       (all-append (λ x. x < 256) (low-bytes 2 next ++ low-bytes 2 n ++ low-bytes 4 s) (low-bytes 2 (code-of n s))
       (all-append (λ x. x < 256) (low-bytes 2 next ++ low-bytes 2 n) (low-bytes 4 s)
@@ -107,7 +109,7 @@ module _ (m : Words) (p : Sizes) (n s next : ℕ) (d : List ℕ) (h : Small d) w
   first-byte : (k : ℕ) → m (k / 4) ≡ Some (word-of (first-bytes p n s next d) (k / 4)) → byte m k ≡ getD (first-bytes p n s next d) k 255
   first-byte k e = byte-read m (first-bytes p n s next d) k (first-small p n s next d h) e
 
-  pub first-kind : m 0 ≡ Some (word-of (first-bytes p n s next d) 0) → kind-of m ≡ first-type (size p n)
+  pub first-kind : m 0 ≡ Some (word-of (first-bytes p n s next d) 0) → kind-of m ≡ type-number (first-type (size p n))
   unfolding kind-of first-bytes
   first-kind e = first-byte 0 e
 

@@ -13,9 +13,10 @@ use lib.ListN.{getD, take, drop}
 use Rattle.std.specs.Iters.{counting}
 use Rattle.flash.specs.Commands.{Command, program}
 use Rattle.clearing.specs.Clearing.{mark}
+use Rattle.layout.specs.declared.block_type.BlockType.the-variants.{Following}
 use Rattle.layout.specs.Sizes.{Sizes, size, followers, first-share, share, head-words, data-words}
 use Rattle.layout.specs.Code.{low-bytes, code-of}
-use Rattle.layout.specs.Sound.{first-type}
+use Rattle.layout.specs.Sound.{type-number, first-type}
 
 -- unused bytes are FF hex
 unfoldable pub word-of : List ℕ → ℕ → ℕ
@@ -24,12 +25,12 @@ word-of l w = getD l (4 * w) 255 + 256 * getD l (4 * w + 1) 255 + 65536 * getD l
 -- type, chain, number, serial, code, data
 unfoldable pub first-bytes : Sizes → ℕ → ℕ → ℕ → List ℕ → List ℕ
 first-bytes p n s next d =
-    first-type (size p n)
+    type-number (first-type (size p n))
     ∷ low-bytes 2 next ++ low-bytes 2 n ++ low-bytes 4 s ++ low-bytes 2 (code-of n s) ++ take (first-share (size p n)) d
 
 -- type, chain, data
 unfoldable pub follow-bytes : ℕ → ℕ → ℕ → List ℕ → List ℕ
-follow-bytes s j next d = 3 ∷ low-bytes 2 next ++ take (share s j) (drop (41 + 53 * j) d)
+follow-bytes s j next d = type-number Following ∷ low-bytes 2 next ++ take (share s j) (drop (41 + 53 * j) d)
 
 -- words ascending
 abbrev pub programs : ℕ → List ℕ → ℕ → List Command

@@ -14,16 +14,16 @@ returns-in-rest c = let z = c .in-rest .ensures tt in grind (arith, tells)
 pub returns-in-rest-fields : need.returns-in-rest-fields
 returns-in-rest-fields c = not-first (sizes-of (c .args .plan .now)) (c .args .number .0) (words-of (c .args .block .now)) (c .in-rest-fields .ensures tt)
 
-pub returns-then-fields-first-type-of : need.returns-then-fields-first-type-of
+pub returns-then-fields-number : need.returns-then-fields-number
 unfolding candidate coded
-returns-then-fields-first-type-of c =
+returns-then-fields-number c =
     let z = c .in-Some .ensures tt in
     let f = fields-told (words-of (c .args .block .now)) _ (c .in-Some-fields .ensures tt) in
     grind (arith, tells)
 
-pub returns-then-fields-number : need.returns-then-fields-number
+pub returns-then-fields-number-2 : need.returns-then-fields-number-2
 unfolding candidate coded
-returns-then-fields-number c =
+returns-then-fields-number-2 c =
     let z = c .in-Some .ensures tt in
     let f = fields-told (words-of (c .args .block .now)) _ (c .in-Some-fields .ensures tt) in
     grind (arith, tells)

@@ -4,9 +4,9 @@ use Rattle.std.proofs.shelf.Ways.{tells}
 use Rattle.layout.specs.Sound.{follows}
 use Rattle.layout.proofs.check.is_following.Needs as need
 
-pub returns-then-kind-ne3 : need.returns-then-kind-ne3
+pub returns-then-kind-number : need.returns-then-kind-number
 unfolding follows
-returns-then-kind-ne3 c = grind (arith, tells)
+returns-then-kind-number c = grind (arith, tells)
 
 pub returns-then-not-all-written : need.returns-then-not-all-written
 unfolding follows

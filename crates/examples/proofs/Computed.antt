@@ -14,19 +14,19 @@ use Rattle.examples.specs.Worked.{Worked}
 counts : (z r : ℕ) → commands-of z ≡ r → Counts z r
 counts z r e = subst (λ (k : ℕ). Counts z k) e (record-counts z)
 
-of-1 : commands-of 1 ≡ 4
+pub of-1 : commands-of 1 ≡ 4
 unfolding commands-of followers first-share share head-words data-words
 of-1 = refl
 
-of-41 : commands-of 41 ≡ 14
+pub of-41 : commands-of 41 ≡ 14
 unfolding commands-of followers first-share share head-words data-words
 of-41 = refl
 
-of-42 : commands-of 42 ≡ 15
+pub of-42 : commands-of 42 ≡ 15
 unfolding commands-of followers first-share share head-words data-words
 of-42 = refl
 
-of-1024 : commands-of 1024 ≡ 274
+pub of-1024 : commands-of 1024 ≡ 274
 unfolding commands-of followers first-share share head-words data-words
 of-1024 = refl
 

@@ -39,7 +39,7 @@ def files(*kinds):
 
 
 def own_names():
-    names = set()
+    names, library = set(), set()
     for path in files("specs/**/*.antt", "proofs/**/*.antt"):
         for line in open(path, encoding="utf-8"):
             if line.lstrip().startswith(("--", "let ", "use ", "|")):
@@ -51,7 +51,9 @@ def own_names():
         for line in open(path, encoding="utf-8"):
             if "use " in line:
                 names |= set(SHORT.findall(line))
-    return names
+                if "use Rattle.std." in line:
+                    library |= set(re.findall(r"[\w'-]+", line))
+    return names - library
 
 
 def turned(line, names, mark):

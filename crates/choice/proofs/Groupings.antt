@@ -3,7 +3,7 @@ use Rattle.std.proofs.Common.{◌≡◌, ℕ, zero, suc, ◌+◌, ◌<◌, ◌�
 use Rattle.std.specs.List.{range_with_len, AllByRecursion as All}
 use Rattle.std.proofs.ByRecursion.{all_kept_by, All-weaker}
 use Rattle.std.proofs.lemmas.List.{get_or-set_same, get_or-set_other, length-set}
-use Rattle.std.proofs.lemmas.Bool.{cases_eq, cases_lt, lt-ltb, le-ltb, cond-true, cond_false}
+use Rattle.std.proofs.lemmas.Bool.{cases_eq, cases_lt, lt-ltb, le-ltb, cond-true, cond-false}
 use Rattle.flash.specs.State.{Memory}
 use Rattle.layout.specs.declared.state.BlockState.{BlockState}
 use Rattle.layout.specs.Sizes.{Sizes, numbers}
@@ -43,7 +43,7 @@ grouped_all o p n t e h b = elim (cases_lt b 256) [
   | inl l ↦ cond-true (ltb b 256) _ _ (lt-ltb b 256 l) ∙ h.1 b (omega arith)
   | inr l ↦
       let f : ltb b 256 ≡ false = le-ltb b 256 l in
-      cond_false (ltb b 256) _ _ f ∙ sym (ap (λ (s : Option BlockState). grouped s (first_in o.heads (numbers p) b)) (cond_false (ltb b 256) _ _ f))
+      cond-false (ltb b 256) _ _ f ∙ sym (ap (λ (s : Option BlockState). grouped s (first_in o.heads (numbers p) b)) (cond-false (ltb b 256) _ _ f))
 ]
 
 begins_alike : (m : Memory) (o : Option ℕ) (b : ℕ) → begins_at (headed m o) b ≡ begins o b
@@ -68,7 +68,7 @@ module _ (count : ℕ) (m : Memory) (p : Sizes) where
         ∙ ap (λ (f : Bool). Some (group_of (state count m p b) f)) (first_tabled o.heads heads b)
 
     pub groups_beyond : (b : ℕ) → count ≤ b → group_in t b ≡ None
-    groups_beyond b l = g b ∙ ap (λ (s : Option BlockState). grouped s (first_in o.heads (numbers p) b)) (states b ∙ cond_false (ltb b count) _ _ (le-ltb b count l))
+    groups_beyond b l = g b ∙ ap (λ (s : Option BlockState). grouped s (first_in o.heads (numbers p) b)) (states b ∙ cond-false (ltb b count) _ _ (le-ltb b count l))
 
   -- every block of a group is one of the flash's
   pub in_group_below : (g : Group) → All (λ x. x < count) (in_group count m p g)

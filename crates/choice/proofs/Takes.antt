@@ -2,7 +2,7 @@
 use Rattle.std.proofs.Common.{◌≡◌, ℕ, zero, suc, ◌+◌, ◌-◌, ◌<◌, ◌≤◌, Bool, true, false, cond, ltb, List, [], ◌∷◌, ◌++◌, length, get_or, take, set, Some, None, filter, sym, refl, ap, ◌∙◌, inl, inr, arith}
 use Rattle.std.specs.List.{range_with_len}
 use Rattle.std.proofs.lemmas.List.{append-nil, append_assoc, length_push, set_past, get_or_past, get_or-set_same, get_or-set_other}
-use Rattle.std.proofs.lemmas.Bool.{cases_Bool, cases_eq, cases_lt, both_ways, lt-ltb, le-ltb, cond-true, cond_false}
+use Rattle.std.proofs.lemmas.Bool.{cases_Bool, cases_eq, cases_lt, both_ways, lt-ltb, le-ltb, cond-true, cond-false}
 use Rattle.flash.specs.declared.BlockNumber.{BlockNumber}
 use Rattle.layout.specs.declared.state.BlockState.TheVariants.{Spent}
 use Rattle.layout.specs.States.{holds}
@@ -41,10 +41,10 @@ module _ (q t : ℕ → Bool) (b : ℕ) (here : t b ≡ false) (there : (c : ℕ
         let g : x ∷ filter q xs ≡ b ∷ rest = sym (cond-true (q x) (x ∷ filter q xs) (filter q xs) e) ∙ h in
         let z : x ≡ b = cc in
         let r : filter q xs ≡ rest = cc in
-        cond_false (t x) (x ∷ filter t xs) (filter t xs) (ap t z ∙ here) ∙ without xs (ap (holds xs) (sym z) ∙ d.0) ∙ r
+        cond-false (t x) (x ∷ filter t xs) (filter t xs) (ap t z ∙ here) ∙ without xs (ap (holds xs) (sym z) ∙ d.0) ∙ r
     | inr e ↦
-        let g : filter q xs ≡ b ∷ rest = sym (cond_false (q x) (x ∷ filter q xs) (filter q xs) e) ∙ h in
-        cond_false (t x) (x ∷ filter t xs) (filter t xs) (refused x e) ∙ kept_after xs rest d.1 g
+        let g : filter q xs ≡ b ∷ rest = sym (cond-false (q x) (x ∷ filter q xs) (filter q xs) e) ∙ h in
+        cond-false (t x) (x ∷ filter t xs) (filter t xs) (refused x e) ∙ kept_after xs rest d.1 g
   ]
 
 -- a block that is marked as spent is not free, and the others are as they were
@@ -53,7 +53,7 @@ module _ (u v : Survey) (b : ℕ) (g : v.entries ≡ spent_at u.entries b) where
   inside c l = ap (suits Writing) (cond-true (ltb c 256) _ _ (lt-ltb c 256 l))
 
   outside : (w : Survey) (c : ℕ) → 256 ≤ c → suited Writing w c ≡ false
-  outside w c l = ap (suits Writing) (cond_false (ltb c 256) (get_or w.entries c (entry None)).state None (le-ltb c 256 l))
+  outside w c l = ap (suits Writing) (cond-false (ltb c 256) (get_or w.entries c (entry None)).state None (le-ltb c 256 l))
 
   marked : b < 256 → v.entries ≡ set u.entries b (entry (Some Spent))
   marked l = g ∙ cond-true (ltb b 256) _ _ (lt-ltb b 256 l)
@@ -70,7 +70,7 @@ module _ (u v : Survey) (b : ℕ) (g : v.entries ≡ spent_at u.entries b) where
   kept_entry : (c : ℕ) → (c ≡ b → ⊥) → get_or v.entries c (entry None) ≡ get_or u.entries c (entry None)
   kept_entry c ne = elim (cases_lt b 256) [
     | inl l ↦ ap (λ (es : List Entry). get_or es c (entry None)) (marked l) ∙ get_or-set_other u.entries b c (entry (Some Spent)) (entry None) ne
-    | inr l ↦ ap (λ (es : List Entry). get_or es c (entry None)) (g ∙ cond_false (ltb b 256) _ _ (le-ltb b 256 l))
+    | inr l ↦ ap (λ (es : List Entry). get_or es c (entry None)) (g ∙ cond-false (ltb b 256) _ _ (le-ltb b 256 l))
   ]
 
   pub others_as_before : (c : ℕ) → (c ≡ b → ⊥) → suited Writing v c ≡ suited Writing u c

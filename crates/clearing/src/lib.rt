@@ -19,9 +19,9 @@ pub const MARK: u32 = 0xAAAA_AAAA;
 /// Clears a block: programs erase start if it is blank, erases the block, and programs erase end.
 /// It is refused as a look at erase start is.
 pub fn clear<F: Flash>(flash: &mut F, block: BlockNumber) -> Result<(), FlashFault>
-    ensures told { Told model (reached model.kind (model.meaning flash.old) block.0 14) (clearing mark block.0 (model.meaning flash.old).word) flash.old result flash.new }
-    ensures freed { OnOk result (model.meaning flash.new ≡ freed mark block.0 (model.meaning flash.old)) }
-    ensures others { Others block.0 (model.meaning flash.old) (model.meaning flash.new) }
+    ensures told { Told F.model (reached F.model.kind (F.model.meaning flash.old) block.0 14) (clearing mark block.0 (F.model.meaning flash.old).word) flash.old result flash.new }
+    ensures freed { OnOk result (F.model.meaning flash.new ≡ freed mark block.0 (F.model.meaning flash.old)) }
+    ensures others { Others block.0 (F.model.meaning flash.old) (F.model.meaning flash.new) }
 {
     run_clearing(flash, block)
 }
@@ -29,15 +29,15 @@ pub fn clear<F: Flash>(flash: &mut F, block: BlockNumber) -> Result<(), FlashFau
 /// Mends a block whose erase was broken off: erases it and programs erase end.
 /// It is refused as the erase is.
 pub fn mend<F: Flash>(flash: &mut F, block: BlockNumber) -> Result<(), FlashFault>
-    ensures told { Told model (reached model.kind (model.meaning flash.old) block.0 0) (mending mark block.0) flash.old result flash.new }
-    ensures freed { OnOk result (model.meaning flash.new ≡ freed mark block.0 (model.meaning flash.old)) }
-    ensures others { Others block.0 (model.meaning flash.old) (model.meaning flash.new) }
+    ensures told { Told F.model (reached F.model.kind (F.model.meaning flash.old) block.0 0) (mending mark block.0) flash.old result flash.new }
+    ensures freed { OnOk result (F.model.meaning flash.new ≡ freed mark block.0 (F.model.meaning flash.old)) }
+    ensures others { Others block.0 (F.model.meaning flash.old) (F.model.meaning flash.new) }
 {
     run_mending(flash, block)
 }
 
 fn run_clearing<F: Flash>(flash: &mut F, block: BlockNumber) -> Result<(), FlashFault>
-    ensures { Told model (reached model.kind (model.meaning flash.old) block.0 14) (clearing mark block.0 (model.meaning flash.old).word) flash.old result flash.new }
+    ensures { Told F.model (reached F.model.kind (F.model.meaning flash.old) block.0 14) (clearing mark block.0 (F.model.meaning flash.old).word) flash.old result flash.new }
 {
     if flash.look(block, ERASE_START)?.is_none() {
         flash.program(block, ERASE_START, MARK)?;
@@ -46,7 +46,7 @@ fn run_clearing<F: Flash>(flash: &mut F, block: BlockNumber) -> Result<(), Flash
 }
 
 fn run_mending<F: Flash>(flash: &mut F, block: BlockNumber) -> Result<(), FlashFault>
-    ensures { Told model (reached model.kind (model.meaning flash.old) block.0 0) (mending mark block.0) flash.old result flash.new }
+    ensures { Told F.model (reached F.model.kind (F.model.meaning flash.old) block.0 0) (mending mark block.0) flash.old result flash.new }
 {
     flash.erase(block)?;
     flash.program(block, ERASE_END, MARK)

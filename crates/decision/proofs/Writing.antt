@@ -1,7 +1,7 @@
 -- What a write decides, one refusal after another.
 use Rattle.std.proofs.Common.{◌≡◌, ℕ, suc, ◌+◌, ◌^◌, ◌<◌, ◌≤◌, min, Bool, true, false, not, eqb, ltb, List, [], ◌∷◌, length, take, Some, None, Ok, Err, filter, Option, Result, sym, refl, ap, ◌∙◌, subst, inl, inr, add-one, arith}
 use Rattle.std.specs.List.{AllByRecursion as All}
-use Rattle.std.proofs.lemmas.Bool.{lt-ltb, le-ltb, eq-eqb, ne_eqb, cases_Bool, cases_eq, ltb-true, ltb-false, eqb-true, eqb-false, cond-true, cond_false}
+use Rattle.std.proofs.lemmas.Bool.{lt-ltb, le-ltb, eq-eqb, ne_eqb, cases_Bool, cases_eq, ltb-true, ltb-false, eqb-true, eqb-false, cond-true, cond-false}
 use Rattle.std.proofs.lemmas.Bool.Decides.{nat_tests}
 use Rattle.flash.specs.State.{State, Shaped, Words, Memory}
 use Rattle.flash.specs.Lists.{applied_all, Taken}
@@ -41,14 +41,14 @@ serial_none : (m : Memory) (o : Option ℕ) → None ≡ serial_after (headed m 
 serial_none m None e = absurd (let z : ◌≡◌ {A = ℕ} 0 1 = cc in omega arith)
 serial_none m (Some b) e = elim (cases_Bool (eqb (serial (m b)) 4294967295)) [
   | inl t ↦ t
-  | inr t ↦ absurd (let q : None ≡ Some (serial (m b) + 1) = e ∙ cond_false (eqb (serial (m b)) 4294967295) None (Some (serial (m b) + 1)) t in let z : ◌≡◌ {A = ℕ} 0 1 = cc in omega arith)
+  | inr t ↦ absurd (let q : None ≡ Some (serial (m b) + 1) = e ∙ cond-false (eqb (serial (m b)) 4294967295) None (Some (serial (m b) + 1)) t in let z : ◌≡◌ {A = ℕ} 0 1 = cc in omega arith)
 ]
 
 serial_some : (m : Memory) (o : Option ℕ) (n : ℕ) → Some n ≡ serial_after (headed m o) → (eqb (serial_at m o) 4294967295 ≡ false) × (n ≡ suc (serial_at m o))
 serial_some m None n e = (refl, let q : n ≡ 1 = cc in q)
 serial_some m (Some b) n e = elim (cases_Bool (eqb (serial (m b)) 4294967295)) [
   | inl t ↦ absurd (let q : Some n ≡ None = e ∙ cond-true (eqb (serial (m b)) 4294967295) None (Some (serial (m b) + 1)) t in let z : ◌≡◌ {A = ℕ} 0 1 = cc in omega arith)
-  | inr t ↦ let q : Some n ≡ Some (serial (m b) + 1) = e ∙ cond_false (eqb (serial (m b)) 4294967295) None (Some (serial (m b) + 1)) t in
+  | inr t ↦ let q : Some n ≡ Some (serial (m b) + 1) = e ∙ cond-false (eqb (serial (m b)) 4294967295) None (Some (serial (m b) + 1)) t in
       (t, let z : n ≡ serial (m b) + 1 = cc in z ∙ add-one (serial (m b)))
 ]
 
@@ -75,10 +75,10 @@ module _ {A : Type 0} (c : Counts) (need : ℕ) (d : Decision A) where
   room_refused e h = elim (cases_Bool (ltb (c.free + c.spent + c.half_erased) need)) [
     | inl t ↦ let q : Err e ≡ Err (Own Full) = h ∙ cond-true (ltb (c.free + c.spent + c.half_erased) need) (Err (Own Full)) _ t in let z : e ≡ Own Full = cc in rw (t, z) refl
     | inr t ↦
-        let q = h ∙ cond_false (ltb (c.free + c.spent + c.half_erased) need) (Err (Own Full)) _ t in
+        let q = h ∙ cond-false (ltb (c.free + c.spent + c.half_erased) need) (Err (Own Full)) _ t in
         elim (cases_Bool (ltb c.free need)) [
           | inl u ↦ let v : Err e ≡ Err (Own EraseFirst) = q ∙ cond-true (ltb c.free need) (Err (Own EraseFirst)) (Ok tt) u in let z : e ≡ Own EraseFirst = cc in rw (t, u, z) refl
-          | inr u ↦ absurd (let v : Err e ≡ Ok tt = q ∙ cond_false (ltb c.free need) (Err (Own EraseFirst)) (Ok tt) u in let z : ◌≡◌ {A = ℕ} 0 1 = cc in omega arith)
+          | inr u ↦ absurd (let v : Err e ≡ Ok tt = q ∙ cond-false (ltb c.free need) (Err (Own EraseFirst)) (Ok tt) u in let z : ◌≡◌ {A = ℕ} 0 1 = cc in omega arith)
         ]
   ]
 
@@ -86,7 +86,7 @@ module _ {A : Type 0} (c : Counts) (need : ℕ) (d : Decision A) where
   room_given x h = elim (cases_Bool (ltb (c.free + c.spent + c.half_erased) need)) [
     | inl t ↦ absurd (let q : Ok x ≡ Err (Own Full) = h ∙ cond-true (ltb (c.free + c.spent + c.half_erased) need) (Err (Own Full)) _ t in let z : ◌≡◌ {A = ℕ} 0 1 = cc in omega arith)
     | inr t ↦
-        let q = h ∙ cond_false (ltb (c.free + c.spent + c.half_erased) need) (Err (Own Full)) _ t in
+        let q = h ∙ cond-false (ltb (c.free + c.spent + c.half_erased) need) (Err (Own Full)) _ t in
         elim (cases_Bool (ltb c.free need)) [
           | inl u ↦ absurd (let v : Ok x ≡ Err (Own EraseFirst) = q ∙ cond-true (ltb c.free need) (Err (Own EraseFirst)) (Ok tt) u in let z : ◌≡◌ {A = ℕ} 0 1 = cc in omega arith)
           | inr u ↦ (rw (t, u) refl, ltb-false c.free need u)

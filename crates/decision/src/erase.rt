@@ -15,7 +15,7 @@ use survey::overview::look_over;
 
 /// The block that an erase clears: the first spent or half-erased one in the round.
 pub fn decide_erase<F: Flash>(flash: &F, plan: &Plan, bar: &Bar) -> Result<BlockNumber, UnitFault>
-    ensures { Decided (model.meaning flash.now) (to_erase (sizes_of plan.now) bar.now model.kind (model.meaning flash.now)) (λ b. clearing mark b.0 (model.meaning flash.now).word) (λ b. b) result }
+    ensures { Decided (F.model.meaning flash.now) (to_erase (sizes_of plan.now) bar.now F.model.kind (F.model.meaning flash.now)) (λ b. clearing mark b.0 (F.model.meaning flash.now).word) (λ b. b) result }
 {
     if bar.changes {
         return Err(UnitFault::Own(UnitCause::Barred));

@@ -20,7 +20,7 @@ pub fn decide_format<F: Flash>(
     code: u8,
     bar: &Bar,
 ) -> Result<Groups, UnitFault>
-    ensures { Formats (sizes_of plan.now) code bar.now model.kind (model.meaning flash.now) result }
+    ensures { Formats (sizes_of plan.now) code bar.now F.model.kind (F.model.meaning flash.now) result }
 {
     if code != FORMAT_CODE {
         return Err(UnitFault::Own(UnitCause::WrongCode));

@@ -53,8 +53,8 @@ pub fn decide_write<F: Flash>(
     data: &[u8],
     bar: &Bar,
 ) -> Result<NewRecord, UnitFault>
-    ensures decided { Decided (model.meaning flash.now) (to_write (sizes_of plan.now) number.0 «data».now bar.now model.kind (model.meaning flash.now)) (λ w. record_on w.size w.number.0 w.serial «data».now (listed w.blocks)) (λ w. w.serial) result }
-    ensures leads { IfOk result (λ w. LeadsToRecord (model.meaning flash.now).count (model.meaning flash.now).word (sizes_of plan.now) number.0 «data».now w.serial (applied_all (record_on w.size w.number.0 w.serial «data».now (listed w.blocks)) (model.meaning flash.now).word)) }
+    ensures decided { Decided (F.model.meaning flash.now) (to_write (sizes_of plan.now) number.0 «data».now bar.now F.model.kind (F.model.meaning flash.now)) (λ w. record_on w.size w.number.0 w.serial «data».now (listed w.blocks)) (λ w. w.serial) result }
+    ensures leads { IfOk result (λ w. LeadsToRecord (F.model.meaning flash.now).count (F.model.meaning flash.now).word (sizes_of plan.now) number.0 «data».now w.serial (applied_all (record_on w.size w.number.0 w.serial «data».now (listed w.blocks)) (F.model.meaning flash.now).word)) }
 {
     let Some(size) = plan.size(number) else {
         return Err(UnitFault::Own(UnitCause::NoNumber));

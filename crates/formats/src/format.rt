@@ -32,7 +32,7 @@ pub trait Format {
 
 /// How many blocks a memory of so many bytes holds: 3 to 256, or none.
 pub fn count_blocks<F: Format>(len: usize) -> u16
-    ensures { result ≡ blocks_of form.size len }
+    ensures { result ≡ blocks_of F.form.size len }
 {
     blocks_of(F::block_size(), len)
 }

@@ -1,6 +1,6 @@
 -- A command of the first or of the second flash, as the pair sees it.
 use Rattle.std.proofs.Common.{◌≡◌, ℕ, ◌-◌, ◌<◌, ◌≤◌, Bool, true, false, ◌&&◌, ltb, Ok, Result, sym, refl, ap, ◌∙◌, subst, inl, inr, arith}
-use Rattle.std.proofs.lemmas.Bool.{lt-ltb, le-ltb, cases_lt, cond-true, cond_false}
+use Rattle.std.proofs.lemmas.Bool.{lt-ltb, le-ltb, cases_lt, cond-true, cond-false}
 use Rattle.std.proofs.lemmas.Bool.Decides.{nat_tests}
 use Rattle.flash.specs.declared.BlockNumber.{BlockNumber}
 use Rattle.flash.specs.declared.fault.FlashFault.{FlashFault}
@@ -52,13 +52,13 @@ module _ (s t : State) where
 side_first : (n b : ℕ) (at : BlockNumber) → side n b ≡ First at → (b < n) × (at.0 ≡ b)
 side_first n b at h = elim (cases_lt b n) [
   | inl l ↦ (l, let e : First (record { 0 = b }) ≡ First at = sym (cond-true (ltb b n) _ _ (lt-ltb b n l)) ∙ h in cc)
-  | inr l ↦ let e : Second (record { 0 = b - n }) ≡ First at = sym (cond_false (ltb b n) _ _ (le-ltb b n l)) ∙ h in let z : ◌≡◌ {A = ℕ} 0 1 = cc in absurd (omega arith)
+  | inr l ↦ let e : Second (record { 0 = b - n }) ≡ First at = sym (cond-false (ltb b n) _ _ (le-ltb b n l)) ∙ h in let z : ◌≡◌ {A = ℕ} 0 1 = cc in absurd (omega arith)
 ]
 
 side_second : (n b : ℕ) (at : BlockNumber) → side n b ≡ Second at → (n ≤ b) × (at.0 ≡ b - n)
 side_second n b at h = elim (cases_lt b n) [
   | inl l ↦ let e : First (record { 0 = b }) ≡ Second at = sym (cond-true (ltb b n) _ _ (lt-ltb b n l)) ∙ h in let z : ◌≡◌ {A = ℕ} 0 1 = cc in absurd (omega arith)
-  | inr l ↦ (l, let e : Second (record { 0 = b - n }) ≡ Second at = sym (cond_false (ltb b n) _ _ (le-ltb b n l)) ∙ h in cc)
+  | inr l ↦ (l, let e : Second (record { 0 = b - n }) ≡ Second at = sym (cond-false (ltb b n) _ _ (le-ltb b n l)) ∙ h in cc)
 ]
 
 -- a command at a place that the pair does not refuse, given as `told` to block `at` of the flash that it was found on

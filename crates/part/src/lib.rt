@@ -21,7 +21,7 @@ pub struct Part<F> {
 impl<F: Flash> Part<F> {
     /// Whether a flash has these blocks.
     pub fn check(below: &F, first: BlockNumber, blocks: u16) -> Result<(), FlashFault>
-        ensures { result ≡ part_check first.0 blocks (model.meaning below.now) }
+        ensures { result ≡ part_check first.0 blocks (F.model.meaning below.now) }
     {
         if first.0 as u32 + blocks as u32 > below.block_count() as u32 {
             return Err(refusal(Cause::Making, BlockNumber(0), 0));
@@ -53,8 +53,8 @@ impl<F: Flash> Part<F> {
     }
 
     fn size(&self) -> u16
-        ensures count { result ≡ part_count self.now.first.0 self.now.blocks (model.meaning self.now.below) }
-        ensures shape { Shaped (model.meaning self.now.below) }
+        ensures count { result ≡ part_count self.now.first.0 self.now.blocks (F.model.meaning self.now.below) }
+        ensures shape { Shaped (F.model.meaning self.now.below) }
     {
         if self.first.0 as u32 + self.blocks as u32 > self.below.block_count() as u32 {
             return 0;
@@ -64,7 +64,7 @@ impl<F: Flash> Part<F> {
 
     // The block of the flash below, unless the place is refused.
     fn admit(&self, block: BlockNumber, word: u8) -> Result<BlockNumber, FlashFault>
-        ensures { result ≡ allowed 3 (part_state self.now.first.0 self.now.blocks (model.meaning self.now.below)) block.0 word (Ok (record { 0 = self.now.first.0 + block.0 })) }
+        ensures { result ≡ allowed 3 (part_state self.now.first.0 self.now.blocks (F.model.meaning self.now.below)) block.0 word (Ok (record { 0 = self.now.first.0 + block.0 })) }
     {
         if !self.below.has_power() {
             return Err(refusal(Cause::Power, BlockNumber(0), 0));

@@ -1,6 +1,6 @@
 -- Which sound first block a block is, and the table of heads one block on.
 use Rattle.std.proofs.Common.{◌≡◌, ℕ, ◌+◌, ◌<◌, ◌≤◌, Bool, true, false, cond, ltb, List, length, get_or, replicate, IfSome, Some, None, Option, sym, refl, ap, ◌∙◌, subst, inl, inr, add-one, arith}
-use Rattle.std.proofs.lemmas.Bool.{cases_lt, cases_eq, cases_Bool, cond-true, cond_false, lt-ltb, le-ltb}
+use Rattle.std.proofs.lemmas.Bool.{cases_lt, cases_eq, cases_Bool, cond-true, cond-false, lt-ltb, le-ltb}
 use Rattle.std.proofs.lemmas.List.{get_or-set_same, get_or-set_other, length-set, get_or-replicate, get_or_past, length-replicate}
 use Rattle.std.proofs.lemmas.Bool.Decides.{nat_tests}
 use Rattle.flash.specs.State.{Words, Memory}
@@ -118,7 +118,7 @@ below_all count m p b (Some o) lp w = omega (arith, owned_below count m p b o w)
 entry_in : (t : Heads) (n : ℕ) → length t.entries ≡ 64 → head_in t n ≡ get_or t.entries n None
 entry_in t n l = elim (cases_lt n 64) [
   | inl h ↦ cond-true (ltb n 64) _ _ (lt-ltb n 64 h)
-  | inr h ↦ cond_false (ltb n 64) _ _ (le-ltb n 64 h) ∙ sym (get_or_past t.entries n None (omega arith))
+  | inr h ↦ cond-false (ltb n 64) _ _ (le-ltb n 64 h) ∙ sym (get_or_past t.entries n None (omega arith))
 ]
 
 pub table_all : (count : ℕ) (m : Memory) (p : Sizes) (b : ℕ) (t : Heads) → b ≡ count → Table count m p b t → Tabled count m p t

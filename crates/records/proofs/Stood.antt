@@ -1,6 +1,6 @@
 -- A table of 256 that is filled block by block.
 use Rattle.std.proofs.Common.{◌≡◌, ℕ, ◌+◌, ◌<◌, ◌≤◌, Bool, true, false, cond, ltb, List, length, get_or, set, Some, None, Option, sym, refl, ap, ◌∙◌, inl, inr, arith}
-use Rattle.std.proofs.lemmas.Bool.{cases_eq, cases_lt, lt-ltb, le-ltb, cond-true, cond_false}
+use Rattle.std.proofs.lemmas.Bool.{cases_eq, cases_lt, lt-ltb, le-ltb, cond-true, cond-false}
 use Rattle.std.proofs.lemmas.List.{get_or-set_same, get_or-set_other, length-set}
 use Rattle.std.proofs.lemmas.Bool.Decides.{nat_tests}
 
@@ -25,5 +25,5 @@ module _ {X : Type 0} (f : ℕ → X) where
   pub stood_all : (b count : ℕ) (xs : List (Option X)) → b ≡ count → count ≤ 256 → Stood f b xs → (k : ℕ) → cond (ltb k 256) (get_or xs k None) None ≡ cond (ltb k count) (Some (f k)) None
   stood_all b count xs e few h k = elim (cases_lt k 256) [
     | inl l ↦ cond-true (ltb k 256) _ _ (lt-ltb k 256 l) ∙ h.1 k ∙ ap (λ (n : ℕ). cond (ltb k n) (Some (f k)) None) e
-    | inr l ↦ cond_false (ltb k 256) _ _ (le-ltb k 256 l) ∙ sym (cond_false (ltb k count) _ _ (le-ltb k count (omega arith)))
+    | inr l ↦ cond-false (ltb k 256) _ _ (le-ltb k 256 l) ∙ sym (cond-false (ltb k count) _ _ (le-ltb k count (omega arith)))
   ]

@@ -24,7 +24,7 @@ pub fn owned_by<F: Flash>(
     plan: &Plan,
     block: BlockNumber,
 ) -> Result<Option<Owned>, FlashFault>
-    ensures { Answers model.kind (model.meaning flash.now) (owner (model.meaning flash.now).count (model.meaning flash.now).word (sizes_of plan.now) block.0) result }
+    ensures { Answers F.model.kind (F.model.meaning flash.now) (owner (F.model.meaning flash.now).count (F.model.meaning flash.now).word (sizes_of plan.now) block.0) result }
 {
     ask_power(flash)?;
     if block.0 >= flash.block_count() {
@@ -41,9 +41,9 @@ fn owner_of<F: Flash>(
     block: BlockNumber,
     words: &BlockWords,
 ) -> Result<Option<Owned>, FlashFault>
-    requires read { words_of words.now ≡ (model.meaning flash.now).word block.0 }
-    requires inside { block.0 < (model.meaning flash.now).count }
-    ensures { Answers model.kind (model.meaning flash.now) (owner (model.meaning flash.now).count (model.meaning flash.now).word (sizes_of plan.now) block.0) result }
+    requires read { words_of words.now ≡ (F.model.meaning flash.now).word block.0 }
+    requires inside { block.0 < (F.model.meaning flash.now).count }
+    ensures { Answers F.model.kind (F.model.meaning flash.now) (owner (F.model.meaning flash.now).count (F.model.meaning flash.now).word (sizes_of plan.now) block.0) result }
 {
     ask_power(flash)?;
     let number = words.number();
@@ -106,8 +106,8 @@ impl Heads {
 
 /// The heads of all current records: for each number the sound first block of highest serial, ties to the lower block.
 pub fn current_heads<F: Flash>(flash: &F, plan: &Plan) -> Result<Heads, FlashFault>
-    ensures answer { Finds model.kind (model.meaning flash.now) (sizes_of plan.now) result }
-    ensures law { (n : ℕ) → Current (model.meaning flash.now).count (model.meaning flash.now).word (sizes_of plan.now) n (current_of (model.meaning flash.now).count (model.meaning flash.now).word (sizes_of plan.now) n) }
+    ensures answer { Finds F.model.kind (F.model.meaning flash.now) (sizes_of plan.now) result }
+    ensures law { (n : ℕ) → Current (F.model.meaning flash.now).count (F.model.meaning flash.now).word (sizes_of plan.now) n (current_of (F.model.meaning flash.now).count (F.model.meaning flash.now).word (sizes_of plan.now) n) }
 {
     find_heads(flash, plan)
 }
@@ -118,14 +118,14 @@ pub fn current<F: Flash>(
     plan: &Plan,
     number: DataNumber,
 ) -> Result<Option<Head>, FlashFault>
-    ensures { Answers model.kind (model.meaning flash.now) (headed (model.meaning flash.now).word (current_of (model.meaning flash.now).count (model.meaning flash.now).word (sizes_of plan.now) number.0)) result }
+    ensures { Answers F.model.kind (F.model.meaning flash.now) (headed (F.model.meaning flash.now).word (current_of (F.model.meaning flash.now).count (F.model.meaning flash.now).word (sizes_of plan.now) number.0)) result }
 {
     let heads = find_heads(flash, plan)?;
     Ok(heads.current(number))
 }
 
 fn find_heads<F: Flash>(flash: &F, plan: &Plan) -> Result<Heads, FlashFault>
-    ensures { Finds model.kind (model.meaning flash.now) (sizes_of plan.now) result }
+    ensures { Finds F.model.kind (F.model.meaning flash.now) (sizes_of plan.now) result }
 {
     Ok(scan(flash, plan)?.heads)
 }
@@ -162,7 +162,7 @@ impl Scan {
 
 /// One pass over the blocks: the current records, and what each block is by its own words. Each block is read once, apart from the walks along chains.
 pub fn scan<F: Flash>(flash: &F, plan: &Plan) -> Result<Scan, FlashFault>
-    ensures { Scans model.kind (model.meaning flash.now) (sizes_of plan.now) result }
+    ensures { Scans F.model.kind (F.model.meaning flash.now) (sizes_of plan.now) result }
 {
     ask_power(flash)?;
     let mut found = Scan::none();

@@ -8,8 +8,8 @@ use layout::block::BlockWords;
 
 /// The flash's own fault where power is off.
 pub fn ask_power<F: Flash>(flash: &F) -> Result<(), FlashFault>
-    ensures answer { Answers model.kind (model.meaning flash.now) tt result }
-    ensures shape { Shaped (model.meaning flash.now) }
+    ensures answer { Answers F.model.kind (F.model.meaning flash.now) tt result }
+    ensures shape { Shaped (F.model.meaning flash.now) }
 {
     if flash.has_power() {
         return Ok(());
@@ -24,7 +24,7 @@ pub fn ask_power<F: Flash>(flash: &F) -> Result<(), FlashFault>
 
 /// The words of a block.
 pub fn read_block<F: Flash>(flash: &F, block: BlockNumber) -> Result<BlockWords, FlashFault>
-    ensures { Read model.kind (model.meaning flash.now) block.0 result }
+    ensures { Read F.model.kind (F.model.meaning flash.now) block.0 result }
 {
     ask_power(flash)?;
     let mut words = [None; 16];

@@ -18,7 +18,7 @@ pub fn leads<F: Flash>(
     first: BlockNumber,
     from: BlockNumber,
 ) -> Result<bool, FlashFault>
-    ensures { Answers model.kind (model.meaning flash.now) (chain_leads (model.meaning flash.now).count (model.meaning flash.now).word size first.0 0 from.0 (followers size)) result }
+    ensures { Answers F.model.kind (F.model.meaning flash.now) (chain_leads (F.model.meaning flash.now).count (F.model.meaning flash.now).word size first.0 0 from.0 (followers size)) result }
 {
     ask_power(flash)?;
     let count = flash.block_count();
@@ -43,7 +43,7 @@ pub fn is_sound<F: Flash>(
     number: DataNumber,
     first: BlockNumber,
 ) -> Result<bool, FlashFault>
-    ensures { Answers model.kind (model.meaning flash.now) (sound (model.meaning flash.now).count (model.meaning flash.now).word (sizes_of plan.now) number.0 first.0) result }
+    ensures { Answers F.model.kind (F.model.meaning flash.now) (sound (F.model.meaning flash.now).count (F.model.meaning flash.now).word (sizes_of plan.now) number.0 first.0) result }
 {
     ask_power(flash)?;
     let Some(size) = plan.size(number) else {

@@ -1,6 +1,6 @@
 -- A simulated flash that does exactly what its rehearsal says keeps the flash rules.
 use Rattle.std.proofs.Common.{◌≡◌, ℕ, zero, suc, ◌-◌, ◌^◌, ◌<◌, ◌≤◌, Bool, true, false, cond, ◌&&◌, eqb, ltb, ◌⊎◌, List, length, Some, None, Ok, Err, Option, Result, sym, refl, ap, ◌∙◌, subst, inl, inr, arith}
-use Rattle.std.proofs.lemmas.Bool.{cases_Bool, cases_lt, cond-true, cond_false, ltb-true, ltb-false}
+use Rattle.std.proofs.lemmas.Bool.{cases_Bool, cases_lt, cond-true, cond-false, ltb-true, ltb-false}
 use Rattle.std.proofs.lemmas.Bool.Decides.{nat_tests}
 use Rattle.flash.specs.declared.fault.FlashFault.{FlashFault}
 use Rattle.flash.specs.State.{State, Memory, Word4, put, wipe, fade, powered}
@@ -60,7 +60,7 @@ module _ (form : Form) (law : Lawful form) where
       ∙ elim (cases_Bool (bit marks k)) [
         | inl e ↦ ap (λ z. form.word z c x) (cond-true (bit marks k) (form.put_word ws b k None) ws e)
             ∙ law.reads ws b k None hb' hk tt c x ∙ ap (λ y. cond (eqb b c && eqb k x) None y) (h c x) ∙ one_more (bit marks) (form.word m) b k c x e
-        | inr e ↦ ap (λ z. form.word z c x) (cond_false (bit marks k) (form.put_word ws b k None) ws e)
+        | inr e ↦ ap (λ z. form.word z c x) (cond-false (bit marks k) (form.put_word ws b k None) ws e)
             ∙ h c x ∙ one_left (bit marks) (form.word m) b k c x e
       ]
 
@@ -124,7 +124,7 @@ module _ (form : Form) (law : Lawful form) where
               let q' : held y ≡ after form c (held x) = q ∙ cond-true _ _ _ t in
               rw p' (e, ap (meant form) q' ∙ meant_done c (held x) f e, (ltb-true _ _ t, q'))
           by (inr t) =
-              let p' : r ≡ Err (loss form.kind c) = p ∙ cond_false _ _ _ t in
-              let q' : held y ≡ broken form c (held x) = q ∙ cond_false _ _ _ t in
+              let p' : r ≡ Err (loss form.kind c) = p ∙ cond-false _ _ _ t in
+              let q' : held y ≡ broken form c (held x) = q ∙ cond-false _ _ _ t in
               let z : x.rehearsal.commands ≡ 0 = omega (arith, ltb-false) in
               rw p' (inr (refl, (e, subst (Stopped c (meant form (held x))) (sym (ap (meant form) q')) (meant_stopped c (held x) f e), (z, q'))))

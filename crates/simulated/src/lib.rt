@@ -31,7 +31,7 @@ pub type Cells = Simulated<CellsFormat>;
 impl<F: Format> Simulated<F> {
     /// Whether a memory of so many bytes holds a flash.
     pub fn check(len: usize) -> Result<(), FlashFault>
-        ensures { result ≡ checked form len }
+        ensures { result ≡ checked F.form len }
     {
         if count_blocks::<F>(len) == 0 {
             return Err(FlashFault {

@@ -15,14 +15,14 @@ use formats::format::{Format, count_blocks};
 
 impl<F: Format> Simulated<F> {
     fn blocks(&self) -> u16
-        ensures { result ≡ blocks form (held self.now).bytes }
+        ensures { result ≡ blocks F.form (held self.now).bytes }
     {
         count_blocks::<F>(self.memory.len())
     }
 
     // A fault of this kind of flash.
     fn refusal(cause: Cause, block: BlockNumber, word: u8) -> FlashFault
-        ensures { result ≡ fault cause form.kind block.0 word }
+        ensures { result ≡ fault cause F.form.kind block.0 word }
     {
         FlashFault {
             cause,
@@ -34,7 +34,7 @@ impl<F: Format> Simulated<F> {
 
     // What a word holds, unless the place is refused.
     fn find(&self, block: BlockNumber, word: u8) -> Result<Option<u32>, FlashFault>
-        ensures { result ≡ looked form.kind (meant form (held self.now)) block.0 word }
+        ensures { result ≡ looked F.form.kind (meant F.form (held self.now)) block.0 word }
     {
         if !self.power {
             return Err(Self::refusal(Cause::Power, BlockNumber(0), 0));
@@ -50,14 +50,14 @@ impl<F: Format> Simulated<F> {
 
     // Writes a word, or makes it blank.
     fn put(&mut self, block: BlockNumber, word: u8, value: Option<u32>)
-        ensures { held self.new ≡ with_bytes (form.put_word (held self.old).bytes block.0 word value) (held self.old) }
+        ensures { held self.new ≡ with_bytes (F.form.put_word (held self.old).bytes block.0 word value) (held self.old) }
     {
         F::put(self.memory.as_mut_slice(), block, word, value);
     }
 
     // Makes each word of a block blank whose bit is 1.
     fn blank(&mut self, block: BlockNumber, marks: u32)
-        ensures { held self.new ≡ with_bytes (blanked form (held self.old).bytes block.0 marks 16) (held self.old) }
+        ensures { held self.new ≡ with_bytes (blanked F.form (held self.old).bytes block.0 marks 16) (held self.old) }
     {
         for w in 0..16u8 {
             if (marks >> w) % 2 == 1 {
@@ -81,8 +81,8 @@ impl<F: Format> Simulated<F> {
 
     // Programs a word, or loses power in it as rehearsed.
     fn run_program(&mut self, block: BlockNumber, word: u8, value: u32) -> Result<(), FlashFault>
-        ensures exact { Exact form (Command.program block.0 word value) (held self.old) result (held self.new) }
-        ensures same { (f : FlashFault) → verdict form.kind (Command.program block.0 word value) (meant form (held self.old)) ≡ Err f → self.new ≡ self.old }
+        ensures exact { Exact F.form (Command.program block.0 word value) (held self.old) result (held self.new) }
+        ensures same { (f : FlashFault) → verdict F.form.kind (Command.program block.0 word value) (meant F.form (held self.old)) ≡ Err f → self.new ≡ self.old }
         ensures fits { self.old.rehearsal.manner < 2 ^ 32 }
     {
         let manner = self.rehearsal.manner;
@@ -101,8 +101,8 @@ impl<F: Format> Simulated<F> {
 
     // Erases a block, or loses power in it as rehearsed.
     fn run_erase(&mut self, block: BlockNumber) -> Result<(), FlashFault>
-        ensures exact { Exact form (Command.erase block.0) (held self.old) result (held self.new) }
-        ensures same { (f : FlashFault) → verdict form.kind (Command.erase block.0) (meant form (held self.old)) ≡ Err f → self.new ≡ self.old }
+        ensures exact { Exact F.form (Command.erase block.0) (held self.old) result (held self.new) }
+        ensures same { (f : FlashFault) → verdict F.form.kind (Command.erase block.0) (meant F.form (held self.old)) ≡ Err f → self.new ≡ self.old }
     {
         let _ = self.find(block, 0)?;
         if self.power_holds() {
@@ -136,15 +136,15 @@ impl<F: Format> Flash for Simulated<F> {
     }
 
     fn program(&mut self, block: BlockNumber, word: u8, value: u32) -> Result<(), FlashFault>
-        ensures rules { Obeys (simulation form) (Command.program block.0 word value) self.old result self.new }
-        ensures exact { Exact form (Command.program block.0 word value) (held self.old) result (held self.new) }
+        ensures rules { Obeys (simulation F.form) (Command.program block.0 word value) self.old result self.new }
+        ensures exact { Exact F.form (Command.program block.0 word value) (held self.old) result (held self.new) }
     {
         self.run_program(block, word, value)
     }
 
     fn erase(&mut self, block: BlockNumber) -> Result<(), FlashFault>
-        ensures rules { Obeys (simulation form) (Command.erase block.0) self.old result self.new }
-        ensures exact { Exact form (Command.erase block.0) (held self.old) result (held self.new) }
+        ensures rules { Obeys (simulation F.form) (Command.erase block.0) self.old result self.new }
+        ensures exact { Exact F.form (Command.erase block.0) (held self.old) result (held self.new) }
     {
         self.run_erase(block)
     }

@@ -1,6 +1,6 @@
 -- The table of states one block on, and its counts.
 use Rattle.std.proofs.Common.{◌≡◌, ℕ, zero, suc, ◌+◌, ◌<◌, ◌≤◌, Bool, true, false, cond, ltb, List, length, get_or, set, Some, None, Option, sym, refl, ap, ◌∙◌, subst, inl, inr, add-one, arith}
-use Rattle.std.proofs.lemmas.Bool.{cases_eq, cases_lt, lt-ltb, le-ltb, cond-true, cond_false}
+use Rattle.std.proofs.lemmas.Bool.{cases_eq, cases_lt, lt-ltb, le-ltb, cond-true, cond-false}
 use Rattle.std.proofs.lemmas.List.{get_or-set_same, get_or-set_other, length-set}
 use Rattle.std.proofs.lemmas.Bool.Decides.{nat_tests}
 use Rattle.flash.specs.State.{Memory}
@@ -55,7 +55,7 @@ surveyed_none count m p u l h = (l, λ k. ap (λ (z : Entry). z.state) (h k) ∙
 pub surveyed_all : (count : ℕ) (m : Memory) (p : Sizes) (b : ℕ) (u : Survey) → b ≡ count → count ≤ 256 → Surveyed count m p b u → (k : ℕ) → entry_in u k ≡ entry_of count m p k
 surveyed_all count m p b u e few h k = elim (cases_lt k 256) [
   | inl l ↦ cond-true (ltb k 256) _ _ (lt-ltb k 256 l) ∙ h.1 k ∙ ap (λ (n : ℕ). entry_below count m p n k) e
-  | inr l ↦ cond_false (ltb k 256) _ _ (le-ltb k 256 l) ∙ sym (cond_false (ltb k count) _ _ (le-ltb k count (omega arith)))
+  | inr l ↦ cond-false (ltb k 256) _ _ (le-ltb k 256 l) ∙ sym (cond-false (ltb k count) _ _ (le-ltb k count (omega arith)))
 ]
 
 with_few : (n : ℕ) (c : Counts) (o : Option BlockState) → Few n c → Few (suc n) (counted_with c o)

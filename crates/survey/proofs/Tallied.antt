@@ -1,7 +1,7 @@
 -- The counts of a table of all states are those of the blocks of the flash.
 use Rattle.std.proofs.Common.{◌≡◌, ℕ, zero, suc, ◌+◌, ◌-◌, ◌<◌, ◌≤◌, Bool, true, false, cond, ltb, List, [], ◌∷◌, map, length, get_or, Some, None, filter, sym, refl, ap, ◌∙◌, add-zero, add-one, arith}
 use Rattle.std.specs.List.{range_with_len}
-use Rattle.std.proofs.lemmas.Bool.{lt-ltb, le-ltb, cond-true, cond_false}
+use Rattle.std.proofs.lemmas.Bool.{lt-ltb, le-ltb, cond-true, cond-false}
 use Rattle.std.proofs.lemmas.List.{length-append, map-id}
 use Rattle.std.proofs.lemmas.List.FromFn.{filter_of_map_range_with_len_more}
 use Rattle.flash.specs.State.{Memory}
@@ -58,7 +58,7 @@ module _ (count : ℕ) (m : Memory) (p : Sizes) where
     some_listed b l = listed b (omega arith) ∙ cond-true (ltb b count) _ _ (lt-ltb b count l)
 
     none_listed : (b : ℕ) → count ≤ b → b < 256 → (get_or u.entries b (entry None)).state ≡ None
-    none_listed b l k = listed b k ∙ cond_false (ltb b count) _ _ (le-ltb b count l)
+    none_listed b l k = listed b k ∙ cond-false (ltb b count) _ _ (le-ltb b count l)
 
     -- the blocks of the flash count once each
     up_to : (n : ℕ) → n ≤ count → tally u.entries n ≡ those n

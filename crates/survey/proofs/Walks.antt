@@ -1,6 +1,6 @@
 -- Marks along a chain, and of all current records.
 use Rattle.std.proofs.Common.{◌≡◌, ℕ, zero, suc, ◌+◌, ◌-◌, ◌<◌, ◌≤◌, Bool, true, false, ◌||◌, eqb, ltb, List, ◌∷◌, length, get_or, set, Some, None, Ok, Err, Option, Result, sym, refl, ap, ◌∙◌, subst, inl, inr, add-one, arith}
-use Rattle.std.proofs.lemmas.Bool.{cases_eq, cases_lt, eq-eqb, ne_eqb, lt-ltb, le-ltb, cond-true, cond_false}
+use Rattle.std.proofs.lemmas.Bool.{cases_eq, cases_lt, eq-eqb, ne_eqb, lt-ltb, le-ltb, cond-true, cond-false}
 use Rattle.std.proofs.lemmas.List.{get_or-set_same, get_or-set_other, get_or_past, length-set}
 use Rattle.std.proofs.lemmas.Bool.Decides.{nat_tests}
 use Rattle.flash.specs.declared.fault.FlashFault.{FlashFault}
@@ -144,7 +144,7 @@ used_more count m p n t u h k = (k.0, λ b. k.1 b ∙ ap (λ (z : Bool). within 
 mark_in : (u : UsedBlocks) (b : ℕ) → length u.marks ≡ 256 → used_in u b ≡ get_or u.marks b false
 mark_in u b l = elim (cases_lt b 256) [
   | inl h ↦ cond-true (ltb b 256) _ _ (lt-ltb b 256 h)
-  | inr h ↦ cond_false (ltb b 256) _ _ (le-ltb b 256 h) ∙ sym (get_or_past u.marks b false (omega arith))
+  | inr h ↦ cond-false (ltb b 256) _ _ (le-ltb b 256 h) ∙ sym (get_or_past u.marks b false (omega arith))
 ]
 
 pub used_all : (count : ℕ) (m : Memory) (p : Sizes) (n : ℕ) (u : UsedBlocks) → n ≡ numbers p → Used count m p n u → (b : ℕ) → used_in u b ≡ in_use count m p b

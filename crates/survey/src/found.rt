@@ -17,7 +17,7 @@ use records::reading::ask_power;
 
 /// How many blocks of a flash there are of each state.
 pub fn count_states<F: Flash>(flash: &F, plan: &Plan) -> Result<Counts, FlashFault>
-    ensures { Answers model.kind (model.meaning flash.now) (counts_of (model.meaning flash.now).count (model.meaning flash.now).word (sizes_of plan.now)) result }
+    ensures { Answers F.model.kind (F.model.meaning flash.now) (counts_of (F.model.meaning flash.now).count (F.model.meaning flash.now).word (sizes_of plan.now)) result }
 {
     ask_power(flash)?;
     let states = survey(flash, plan)?;
@@ -26,7 +26,7 @@ pub fn count_states<F: Flash>(flash: &F, plan: &Plan) -> Result<Counts, FlashFau
 
 /// The head of the newest record of a flash, if it has a record.
 pub fn find_newest<F: Flash>(flash: &F, plan: &Plan) -> Result<Option<Head>, FlashFault>
-    ensures { Answers model.kind (model.meaning flash.now) (headed (model.meaning flash.now).word (newest_of (model.meaning flash.now).count (model.meaning flash.now).word (sizes_of plan.now))) result }
+    ensures { Answers F.model.kind (F.model.meaning flash.now) (headed (F.model.meaning flash.now).word (newest_of (F.model.meaning flash.now).count (F.model.meaning flash.now).word (sizes_of plan.now))) result }
 {
     let heads = current_heads(flash, plan)?;
     Ok(newest(&heads, plan))

@@ -33,7 +33,7 @@ fn settled(standing: Option<BlockState>, in_use: bool) -> Option<BlockState>
 
 /// The current records of a flash and the state of each of its blocks. Each block is read once, apart from the walks along chains.
 pub fn look_over<F: Flash>(flash: &F, plan: &Plan) -> Result<Overview, FlashFault>
-    ensures { Overviews model.kind (model.meaning flash.now) (sizes_of plan.now) result }
+    ensures { Overviews F.model.kind (F.model.meaning flash.now) (sizes_of plan.now) result }
 {
     ask_power(flash)?;
     let found = scan(flash, plan)?;

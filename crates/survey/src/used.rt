@@ -58,8 +58,8 @@ fn mark_following<F: Flash>(
     from: BlockNumber,
 ) -> Result<(), FlashFault>
     requires whole { length used.old.marks ≡ 256 }
-    requires below { (b : ℕ) → holds (chained (model.meaning flash.now).word from.0 (followers size)) b ≡ true → b < (model.meaning flash.now).count }
-    ensures { Marks model.kind (model.meaning flash.now) used.old used.new (holds (chained (model.meaning flash.now).word from.0 (followers size))) result }
+    requires below { (b : ℕ) → holds (chained (F.model.meaning flash.now).word from.0 (followers size)) b ≡ true → b < (F.model.meaning flash.now).count }
+    ensures { Marks F.model.kind (F.model.meaning flash.now) used.old used.new (holds (chained (F.model.meaning flash.now).word from.0 (followers size))) result }
 {
     ask_power(flash)?;
     let mut at = from;
@@ -81,8 +81,8 @@ fn mark_record<F: Flash>(
 ) -> Result<(), FlashFault>
     requires planned { number.0 < numbers (sizes_of plan.now) }
     requires whole { length used.old.marks ≡ 256 }
-    requires current { head ≡ headed (model.meaning flash.now).word (current_of (model.meaning flash.now).count (model.meaning flash.now).word (sizes_of plan.now) number.0) }
-    ensures { Marks model.kind (model.meaning flash.now) used.old used.new (within (model.meaning flash.now).word (sizes_of plan.now) number.0 (current_of (model.meaning flash.now).count (model.meaning flash.now).word (sizes_of plan.now) number.0)) result }
+    requires current { head ≡ headed (F.model.meaning flash.now).word (current_of (F.model.meaning flash.now).count (F.model.meaning flash.now).word (sizes_of plan.now) number.0) }
+    ensures { Marks F.model.kind (F.model.meaning flash.now) used.old used.new (within (F.model.meaning flash.now).word (sizes_of plan.now) number.0 (current_of (F.model.meaning flash.now).count (F.model.meaning flash.now).word (sizes_of plan.now) number.0)) result }
 {
     ask_power(flash)?;
     let Some(head) = head else {
@@ -98,7 +98,7 @@ fn mark_record<F: Flash>(
 
 /// The blocks of all current records.
 pub fn used_blocks<F: Flash>(flash: &F, plan: &Plan) -> Result<UsedBlocks, FlashFault>
-    ensures { Uses model.kind (model.meaning flash.now) (sizes_of plan.now) result }
+    ensures { Uses F.model.kind (F.model.meaning flash.now) (sizes_of plan.now) result }
 {
     let heads = current_heads(flash, plan)?;
     mark_all(flash, plan, &heads)
@@ -110,8 +110,8 @@ pub(crate) fn mark_all<F: Flash>(
     plan: &Plan,
     heads: &Heads,
 ) -> Result<UsedBlocks, FlashFault>
-    requires { Tabled (model.meaning flash.now).count (model.meaning flash.now).word (sizes_of plan.now) heads.now }
-    ensures { Uses model.kind (model.meaning flash.now) (sizes_of plan.now) result }
+    requires { Tabled (F.model.meaning flash.now).count (F.model.meaning flash.now).word (sizes_of plan.now) heads.now }
+    ensures { Uses F.model.kind (F.model.meaning flash.now) (sizes_of plan.now) result }
 {
     ask_power(flash)?;
     let mut used = UsedBlocks::none();

@@ -28,7 +28,7 @@ impl<F: Flash> Ready<F> {
 
     /// Whether its start has run through: a step for every block was accepted.
     pub fn has_run_through(&self) -> bool
-        ensures { result ≡ nat_le (model.meaning self.now.flash).count self.now.accepted }
+        ensures { result ≡ nat_le (F.model.meaning self.now.flash).count self.now.accepted }
     {
         self.flash.block_count() <= self.accepted
     }

@@ -14,8 +14,8 @@ use flash::{BlockNumber, Flash};
 impl<F: Flash> Ready<F> {
     /// Clears the first spent or half-erased block in the round, and answers it.
     pub fn erase(&mut self, bar: &Bar) -> Result<BlockNumber, UnitFault>
-        ensures told { Performs model (to_erase (sizes_of self.old.plan) bar.now) self.old.flash result self.new.flash }
-        ensures does { Does model.kind (to_erase (sizes_of self.old.plan) bar.now) (model.meaning self.old.flash) result (model.meaning self.new.flash) }
+        ensures told { Performs F.model (to_erase (sizes_of self.old.plan) bar.now) self.old.flash result self.new.flash }
+        ensures does { Does F.model.kind (to_erase (sizes_of self.old.plan) bar.now) (F.model.meaning self.old.flash) result (F.model.meaning self.new.flash) }
         ensures plan { self.new.plan ≡ self.old.plan }
         ensures accepted { self.new.accepted ≡ self.old.accepted }
     {

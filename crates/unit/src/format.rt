@@ -41,9 +41,9 @@ fn clear_in_group<F: Flash>(
     group: Group,
     block: BlockNumber,
 ) -> Result<(), FlashFault>
-    requires power { (model.meaning flash.old).power ≡ true }
-    requires inside { block.0 < (model.meaning flash.old).count }
-    ensures { GivenTo model (clearings (model.meaning flash.old).word (if has_group groups.now group block.0 then block.0 ∷ [] else [])) flash.old result flash.new }
+    requires power { (F.model.meaning flash.old).power ≡ true }
+    requires inside { block.0 < (F.model.meaning flash.old).count }
+    ensures { GivenTo F.model (clearings (F.model.meaning flash.old).word (if has_group groups.now group block.0 then block.0 ∷ [] else [])) flash.old result flash.new }
 {
     if is_in_group(groups, block, group) {
         clear(flash, block)?;
@@ -53,8 +53,8 @@ fn clear_in_group<F: Flash>(
 
 // Clears the blocks of a group, ascending.
 fn clear_group<F: Flash>(flash: &mut F, groups: &Groups, group: Group) -> Result<(), FlashFault>
-    requires { (model.meaning flash.old).power ≡ true }
-    ensures { GivenTo model (clearings (model.meaning flash.old).word (of_group groups.now group (model.meaning flash.old).count)) flash.old result flash.new }
+    requires { (F.model.meaning flash.old).power ≡ true }
+    ensures { GivenTo F.model (clearings (F.model.meaning flash.old).word (of_group groups.now group (F.model.meaning flash.old).count)) flash.old result flash.new }
 {
     for b in 0..flash.block_count() {
         clear_in_group(flash, groups, group, BlockNumber(b))?;
@@ -64,8 +64,8 @@ fn clear_group<F: Flash>(flash: &mut F, groups: &Groups, group: Group) -> Result
 
 // Clears the blocks of every group, one group after another.
 fn clear_groups<F: Flash>(flash: &mut F, groups: &Groups) -> Result<(), FlashFault>
-    requires { (model.meaning flash.old).power ≡ true }
-    ensures { GivenTo model (clearings (model.meaning flash.old).word (of_groups groups.now group_order (model.meaning flash.old).count)) flash.old result flash.new }
+    requires { (F.model.meaning flash.old).power ≡ true }
+    ensures { GivenTo F.model (clearings (F.model.meaning flash.old).word (of_groups groups.now group_order (F.model.meaning flash.old).count)) flash.old result flash.new }
 {
     for group in ORDER {
         clear_group(flash, groups, group)?;
@@ -77,8 +77,8 @@ impl<F: Flash> Shut<F> {
     /// Clears all blocks: the half-erased ones, then the others that are not live, then the live first blocks, then the live following ones.
     /// It asks for code 170; done or not, it leaves the unit shut.
     pub fn format(&mut self, code: u8, bar: &Bar) -> Result<(), UnitFault>
-        ensures told { Performs model (to_format (sizes_of self.old.plan) code bar.now) self.old.flash result self.new.flash }
-        ensures does { Does model.kind (to_format (sizes_of self.old.plan) code bar.now) (model.meaning self.old.flash) result (model.meaning self.new.flash) }
+        ensures told { Performs F.model (to_format (sizes_of self.old.plan) code bar.now) self.old.flash result self.new.flash }
+        ensures does { Does F.model.kind (to_format (sizes_of self.old.plan) code bar.now) (F.model.meaning self.old.flash) result (F.model.meaning self.new.flash) }
         ensures plan { self.new.plan ≡ self.old.plan }
     {
         let groups = decide_format(&self.flash, &self.plan, code, bar)?;

@@ -14,7 +14,7 @@ use values::{Copied, copy_record};
 impl<F: Flash> Ready<F> {
     /// Copies the value of a data number to the front of a buffer, the rest of which stays, and answers its length.
     pub fn read(&self, number: DataNumber, out: &mut [u8], bar: &Bar) -> Result<u16, UnitFault>
-        ensures { Reads (to_read (sizes_of self.now.plan) number.0 (length out.old) bar.now model.kind (model.meaning self.now.flash)) out.old result out.new }
+        ensures { Reads (to_read (sizes_of self.now.plan) number.0 (length out.old) bar.now F.model.kind (F.model.meaning self.now.flash)) out.old result out.new }
     {
         let Some(size) = self.plan.size(number) else {
             return Err(UnitFault::Own(UnitCause::NoNumber));

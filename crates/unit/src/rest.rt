@@ -31,7 +31,7 @@ impl<F: Flash> Shut<F> {
 
     /// The return of power, with what it asks of a flash that can rehearse a loss.
     pub fn restore(&mut self, rehearsal: Rehearsal)
-        ensures flash { Returned model rehearsal self.old.flash self.new.flash }
+        ensures flash { Returned F.model rehearsal self.old.flash self.new.flash }
         ensures plan { self.new.plan ≡ self.old.plan }
     {
         self.flash.restore(rehearsal);

@@ -13,7 +13,7 @@ use flash::{BlockNumber, Flash};
 
 // Whether a block is half erased, by a look at each of its erase marks.
 fn is_half_erased<F: Flash>(flash: &F, block: BlockNumber) -> Result<bool, FlashFault>
-    ensures { result ≡ allowed model.kind (model.meaning flash.now) block.0 14 (Ok (is_half_erased ((model.meaning flash.now).word block.0))) }
+    ensures { result ≡ allowed F.model.kind (F.model.meaning flash.now) block.0 14 (Ok (is_half_erased ((F.model.meaning flash.now).word block.0))) }
 {
     let start = flash.look(block, ERASE_START)?;
     let end = flash.look(block, ERASE_END)?;
@@ -22,7 +22,7 @@ fn is_half_erased<F: Flash>(flash: &F, block: BlockNumber) -> Result<bool, Flash
 
 // The step that looks at block `j`.
 fn take_step<F: Flash>(flash: &mut F, j: u16) -> Result<(), UnitFault>
-    ensures { Performs model (to_step j) flash.old result flash.new }
+    ensures { Performs F.model (to_step j) flash.old result flash.new }
 {
     if j >= flash.block_count() {
         return Ok(());
@@ -38,9 +38,9 @@ impl<F: Flash> Started<F> {
     /// The next step: its block is erased and its erase end programmed if it is half erased.
     /// A refused step is repeated next; a step after the last does nothing.
     pub fn step(&mut self) -> Result<(), UnitFault>
-        ensures told { Performs model (to_step self.old.accepted) self.old.flash result self.new.flash }
-        ensures does { Does model.kind (to_step self.old.accepted) (model.meaning self.old.flash) result (model.meaning self.new.flash) }
-        ensures accepted { self.new.accepted ≡ past (model.meaning self.old.flash) self.old.accepted result }
+        ensures told { Performs F.model (to_step self.old.accepted) self.old.flash result self.new.flash }
+        ensures does { Does F.model.kind (to_step self.old.accepted) (F.model.meaning self.old.flash) result (F.model.meaning self.new.flash) }
+        ensures accepted { self.new.accepted ≡ past (F.model.meaning self.old.flash) self.old.accepted result }
         ensures plan { self.new.plan ≡ self.old.plan }
     {
         let next = self.accepted;
@@ -54,15 +54,15 @@ impl<F: Flash> Started<F> {
 
     /// The steps that are left, up to one refused; the unit is ready either way, with that refusal or none.
     pub fn finish(self) -> (Ready<F>, Option<UnitFault>)
-        ensures told { Finishes (λ j. Performs model (to_step j)) ((model.meaning self.flash).count - self.accepted) self.accepted self.flash result.1 result.0.accepted result.0.flash }
-        ensures does { Finishes (λ j. Does model.kind (to_step j)) ((model.meaning self.flash).count - self.accepted) self.accepted (model.meaning self.flash) result.1 result.0.accepted (model.meaning result.0.flash) }
+        ensures told { Finishes (λ j. Performs F.model (to_step j)) ((F.model.meaning self.flash).count - self.accepted) self.accepted self.flash result.1 result.0.accepted result.0.flash }
+        ensures does { Finishes (λ j. Does F.model.kind (to_step j)) ((F.model.meaning self.flash).count - self.accepted) self.accepted (F.model.meaning self.flash) result.1 result.0.accepted (F.model.meaning result.0.flash) }
         ensures plan { result.0.plan ≡ self.plan }
     {
         self.finish_steps()
     }
 
     fn finish_steps(mut self) -> (Ready<F>, Option<UnitFault>)
-        ensures told { Finishes (λ j. Performs model (to_step j)) ((model.meaning self.flash).count - self.accepted) self.accepted self.flash result.1 result.0.accepted result.0.flash }
+        ensures told { Finishes (λ j. Performs F.model (to_step j)) ((F.model.meaning self.flash).count - self.accepted) self.accepted self.flash result.1 result.0.accepted result.0.flash }
         ensures plan { result.0.plan ≡ self.plan }
     {
         for _ in self.accepted..self.flash.block_count() {
@@ -112,7 +112,7 @@ impl<F: Flash> Started<F> {
 
     /// Whether the start has run through: a step for every block was accepted.
     pub fn has_run_through(&self) -> bool
-        ensures { result ≡ nat_le (model.meaning self.now.flash).count self.now.accepted }
+        ensures { result ≡ nat_le (F.model.meaning self.now.flash).count self.now.accepted }
     {
         self.flash.block_count() <= self.accepted
     }

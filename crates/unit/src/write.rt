@@ -16,9 +16,9 @@ use writing::giving::write_record;
 impl<F: Flash> Ready<F> {
     /// Writes data for a data number into free blocks, and answers the serial of the new record.
     pub fn write(&mut self, number: DataNumber, data: &[u8], bar: &Bar) -> Result<u32, UnitFault>
-        ensures told { Performs model (to_write (sizes_of self.old.plan) number.0 «data».now bar.now) self.old.flash result self.new.flash }
-        ensures does { Does model.kind (to_write (sizes_of self.old.plan) number.0 «data».now bar.now) (model.meaning self.old.flash) result (model.meaning self.new.flash) }
-        ensures wrote { IfOk result (λ s. LeadsToRecord (model.meaning self.old.flash).count (model.meaning self.old.flash).word (sizes_of self.old.plan) number.0 «data».now s (model.meaning self.new.flash).word) }
+        ensures told { Performs F.model (to_write (sizes_of self.old.plan) number.0 «data».now bar.now) self.old.flash result self.new.flash }
+        ensures does { Does F.model.kind (to_write (sizes_of self.old.plan) number.0 «data».now bar.now) (F.model.meaning self.old.flash) result (F.model.meaning self.new.flash) }
+        ensures wrote { IfOk result (λ s. LeadsToRecord (F.model.meaning self.old.flash).count (F.model.meaning self.old.flash).word (sizes_of self.old.plan) number.0 «data».now s (F.model.meaning self.new.flash).word) }
         ensures plan { self.new.plan ≡ self.old.plan }
         ensures accepted { self.new.accepted ≡ self.old.accepted }
     {

@@ -46,8 +46,8 @@ fn copy_following<F: Flash>(
     from: BlockNumber,
     out: &mut [u8],
 ) -> Result<(), FlashFault>
-    requires { (size ≤ 1024) × ((size ≤ length out.old) × ((((b : ℕ) × (leads (model.meaning flash.now).count (model.meaning flash.now).word size b 0 from.0 (followers size) ≡ true))) × ((model.meaning flash.now).power ≡ true))) }
-    ensures { MatchResult result (λ _. out.new ≡ paste out.old 41 (data_from (model.meaning flash.now).word size 0 from.0 (followers size)) (size - 41)) (λ _. ⊥) }
+    requires { (size ≤ 1024) × ((size ≤ length out.old) × ((((b : ℕ) × (leads (F.model.meaning flash.now).count (F.model.meaning flash.now).word size b 0 from.0 (followers size) ≡ true))) × ((F.model.meaning flash.now).power ≡ true))) }
+    ensures { MatchResult result (λ _. out.new ≡ paste out.old 41 (data_from (F.model.meaning flash.now).word size 0 from.0 (followers size)) (size - 41)) (λ _. ⊥) }
 {
     let mut at = from;
     for j in 0..follower_count(size) {
@@ -67,8 +67,8 @@ fn copy_sound<F: Flash>(
     size: u16,
     out: &mut [u8],
 ) -> Result<(), FlashFault>
-    requires { ((size ≡ size_in (sizes_of plan.now) number.0) × (size ≤ 1024) × (size ≤ length out.old)) × ((sound (model.meaning flash.now).count (model.meaning flash.now).word (sizes_of plan.now) number.0 first.0 ≡ true) × ((model.meaning flash.now).power ≡ true)) }
-    ensures { MatchResult result (λ _. out.new ≡ data_at (model.meaning flash.now).word (sizes_of plan.now) number.0 first.0 ++ drop size out.old) (λ _. ⊥) }
+    requires { ((size ≡ size_in (sizes_of plan.now) number.0) × (size ≤ 1024) × (size ≤ length out.old)) × ((sound (F.model.meaning flash.now).count (F.model.meaning flash.now).word (sizes_of plan.now) number.0 first.0 ≡ true) × ((F.model.meaning flash.now).power ≡ true)) }
+    ensures { MatchResult result (λ _. out.new ≡ data_at (F.model.meaning flash.now).word (sizes_of plan.now) number.0 first.0 ++ drop size out.old) (λ _. ⊥) }
 {
     let block = read_block(flash, first)?;
     copy_bytes(&block, 11, first_share_of(size), out, 0);
@@ -84,7 +84,7 @@ pub fn copy_record<F: Flash>(
     first: BlockNumber,
     out: &mut [u8],
 ) -> Result<Copied, FlashFault>
-    ensures { Copies model.kind (model.meaning flash.now) (recorded (model.meaning flash.now).count (model.meaning flash.now).word (sizes_of plan.now) number.0 first.0) (size_in (sizes_of plan.now) number.0) out.old result out.new }
+    ensures { Copies F.model.kind (F.model.meaning flash.now) (recorded (F.model.meaning flash.now).count (F.model.meaning flash.now).word (sizes_of plan.now) number.0 first.0) (size_in (sizes_of plan.now) number.0) out.old result out.new }
 {
     if !is_sound(flash, plan, number, first)? {
         return Ok(Copied::NoValue);
@@ -106,7 +106,7 @@ pub fn copy_value<F: Flash>(
     number: DataNumber,
     out: &mut [u8],
 ) -> Result<Copied, FlashFault>
-    ensures { Copies model.kind (model.meaning flash.now) (value (model.meaning flash.now).count (model.meaning flash.now).word (sizes_of plan.now) number.0) (size_in (sizes_of plan.now) number.0) out.old result out.new }
+    ensures { Copies F.model.kind (F.model.meaning flash.now) (value (F.model.meaning flash.now).count (F.model.meaning flash.now).word (sizes_of plan.now) number.0) (size_in (sizes_of plan.now) number.0) out.old result out.new }
 {
     let Some(head) = current(flash, plan, number)? else {
         return Ok(Copied::NoValue);

@@ -21,7 +21,7 @@ pub fn write_record<F: Flash>(
     record: &NewRecord,
     data: &[u8],
 ) -> Result<(), FlashFault>
-    ensures { Tried model (record_on «record».now.size «record».now.number.0 «record».now.serial «data».now (listed «record».now.blocks)) flash.old result flash.new }
+    ensures { Tried F.model (record_on «record».now.size «record».now.number.0 «record».now.serial «data».now (listed «record».now.blocks)) flash.old result flash.new }
 {
     for i in 1..record.blocks.len() {
         write_block(flash, record, data, i)?;
@@ -36,7 +36,7 @@ fn write_block<F: Flash>(
     data: &[u8],
     i: u8,
 ) -> Result<(), FlashFault>
-    ensures { Tried model (block_commands «record».now.size «record».now.number.0 «record».now.serial «data».now (listed «record».now.blocks) i) flash.old result flash.new }
+    ensures { Tried F.model (block_commands «record».now.size «record».now.number.0 «record».now.serial «data».now (listed «record».now.blocks) i) flash.old result flash.new }
 {
     let Some(first) = record.blocks.get(0) else {
         return Ok(());
@@ -60,7 +60,7 @@ fn write_first<F: Flash>(
     next: BlockNumber,
     data: &[u8],
 ) -> Result<(), FlashFault>
-    ensures { Tried model (first_commands «record».now.size «record».now.number.0 «record».now.serial «data».now block.0 next.0) flash.old result flash.new }
+    ensures { Tried F.model (first_commands «record».now.size «record».now.number.0 «record».now.serial «data».now block.0 next.0) flash.old result flash.new }
 {
     let bytes = first_bytes(record.size, record.number, record.serial, next, data);
     program_words(flash, block, &bytes, head_word_count(record.size))?;
@@ -76,7 +76,7 @@ fn write_following<F: Flash>(
     next: BlockNumber,
     data: &[u8],
 ) -> Result<(), FlashFault>
-    ensures { Tried model (programs block.0 (follow_bytes size j next.0 «data».now) (data_words size j)) flash.old result flash.new }
+    ensures { Tried F.model (programs block.0 (follow_bytes size j next.0 «data».now) (data_words size j)) flash.old result flash.new }
 {
     let bytes = follow_bytes(size, j, next, data);
     program_words(flash, block, &bytes, data_word_count(size, j))
@@ -89,7 +89,7 @@ fn program_words<F: Flash>(
     bytes: &BlockBytes,
     count: u8,
 ) -> Result<(), FlashFault>
-    ensures { Tried model (programs block.0 (held bytes.now) count) flash.old result flash.new }
+    ensures { Tried F.model (programs block.0 (held bytes.now) count) flash.old result flash.new }
 {
     for w in 0..count {
         flash.program(block, w, bytes.word(w))?;

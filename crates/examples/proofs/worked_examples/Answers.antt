@@ -9,9 +9,9 @@ returns c =
     record {
       answer =
           and_from _ _ (and_from _ _ (and_from _ _
-          (eq-eqb _ 4 (c.command-count.ensures.count ∙ of_1))
-          (eq-eqb _ 14 (c.command-count-2.ensures.count ∙ of_41)))
-          (eq-eqb _ 15 (c.command-count-3.ensures.count ∙ of_42)))
-          (eq-eqb _ 274 (c.command-count-4.ensures.count ∙ of_1024));
+          (eq-eqb _ 4 (c.command_count.ensures.count ∙ of_1))
+          (eq-eqb _ 14 (c.command_count-2.ensures.count ∙ of_41)))
+          (eq-eqb _ 15 (c.command_count-3.ensures.count ∙ of_42)))
+          (eq-eqb _ 274 (c.command_count-4.ensures.count ∙ of_1024));
       examples = worked;
     }

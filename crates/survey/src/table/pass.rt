@@ -10,7 +10,7 @@ use layout::plan::Plan;
 
 /// The state of every block of a flash. Each block is read once, apart from the walks along chains.
 pub fn survey<F: Flash>(flash: &F, plan: &Plan) -> Result<Survey, FlashFault>
-    ensures { Surveys model.kind (model.meaning flash.now) (sizes_of plan.now) result }
+    ensures { Surveys F.model.kind (F.model.meaning flash.now) (sizes_of plan.now) result }
 {
     Ok(look_over(flash, plan)?.survey)
 }

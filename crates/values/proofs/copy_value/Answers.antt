@@ -7,15 +7,15 @@ use Rattle.values.specs.Copying.{Copying, Copies}
 use Rattle.values.proofs.Found.{none_valued, head_valued}
 use Rattle.values.proofs.copy_value.Goals as goal
 
-pub returns-in-default : goal.returns-in-default
-returns-in-default g c =
+pub returns-in_default : goal.returns-in_default
+returns-in_default g c =
     let s = g.F.Flash.model.meaning c.args.flash.now in
     let p = sizes_of c.args.plan.now in
     let n = c.args.number.0 in
-    let found = c.in-ok-head.ensures in
+    let found = c.in_ok-head.ensures in
     let d = c.args.out.now in (
       found.0,
-      subst (λ (v : Option (List ℕ)). Copying v (size p n) d NoValue d) (sym (none_valued s.count s.word p n (sym c.in-default.is ∙ found.1))) (refl, refl),
+      subst (λ (v : Option (List ℕ)). Copying v (size p n) d NoValue d) (sym (none_valued s.count s.word p n (sym c.in_default.is ∙ found.1))) (refl, refl),
     )
 
 pub returns : goal.returns
@@ -24,6 +24,6 @@ returns g c =
     let s = m.meaning c.args.flash.now in
     let p = sizes_of c.args.plan.now in
     let n = c.args.number.0 in
-    let found = c.in-ok-head.ensures in
-    subst (λ (v : Option (List ℕ)). Copies m.kind s v (size p n) c.args.out.now c.copy-record.result c.copy-record.new.out)
-    (sym (head_valued s.count s.word p n c.in-Some.head (sym c.in-Some.is ∙ found.1))) c.copy-record.ensures
+    let found = c.in_ok-head.ensures in
+    subst (λ (v : Option (List ℕ)). Copies m.kind s v (size p n) c.args.out.now c.copy_record.result c.copy_record.new.out)
+    (sym (head_valued s.count s.word p n c.in-Some.head (sym c.in-Some.is ∙ found.1))) c.copy_record.ensures

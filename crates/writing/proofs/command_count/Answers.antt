@@ -8,7 +8,7 @@ use Rattle.writing.proofs.command_count.Goals as goal
 pub returns : goal.returns
 returns c =
     record {
-      count = c.count-words.ensures;
-      lists = subst (λ (r : ℕ). Counts c.args.size r) (sym c.count-words.ensures) (record_counts c.args.size);
+      count = c.count_words.ensures;
+      lists = subst (λ (r : ℕ). Counts c.args.size r) (sym c.count_words.ensures) (record_counts c.args.size);
       law = sound_when_done;
     }

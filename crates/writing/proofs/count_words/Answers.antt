@@ -13,5 +13,5 @@ returns c =
 pub loop-j-preserved : goal.loop-j-preserved
 loop-j-preserved c =
     let e = counted_more c.args.size c.loop-j.j c.loop-j.words (omega arith) c.loop-j.invariant.0 in
-    let f = c.data-word-count.ensures.count in
+    let f = c.data_word_count.ensures.count in
     (rw f e, omega arith)

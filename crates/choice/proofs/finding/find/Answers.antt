@@ -18,4 +18,4 @@ returns-in-None c =
     let a = c.args.round.start in
     let z : c.args.round.start - 0 ≡ c.args.round.start = omega arith in
     found_right q (range_with_len a (c.args.round.count - a)) (range_with_len 0 a) _ c.in-None.ensures
-    (c.find-between-in-None.ensures ∙ ap (λ (i : ℕ). numbered (first_of (filter q (range_with_len 0 i)))) z)
+    (c.find_between-in-None.ensures ∙ ap (λ (i : ℕ). numbered (first_of (filter q (range_with_len 0 i)))) z)

@@ -16,9 +16,9 @@ loop-i-preserved c =
     taking_more (round_of c.args.round) _ n c.loop-i.-i (listed c.loop-i.blocks) c.loop-i.left c.loop-i.invariant c.in-Some.block c.push.result (listed c.push.new.self) c.spend.new.self
     (round_apart c.args.round) l few c.in-Some.ensures c.push.ensures.answer c.push.ensures.blocks c.spend.ensures
 
-pub returns-in-default : goal.returns-in-default
-returns-in-default c =
-    taking_stop (round_of c.args.round) _ (min c.args.need 20) c.loop-i.-i (listed c.loop-i.blocks) c.loop-i.left c.loop-i.invariant c.in-default.ensures
+pub returns-in_default : goal.returns-in_default
+returns-in_default c =
+    taking_stop (round_of c.args.round) _ (min c.args.need 20) c.loop-i.-i (listed c.loop-i.blocks) c.loop-i.left c.loop-i.invariant c.in_default.ensures
 
 pub returns : goal.returns
 returns c =

@@ -3,18 +3,18 @@ use Rattle.layout.specs.Plans.{sizes_of}
 use Rattle.decision.proofs.Erasing.{erase_none, erase_some}
 use Rattle.decision.proofs.erase.decide_erase.Goals as goal
 
-pub returns-in-default : goal.returns-in-default
-returns-in-default g c =
+pub returns-in_default : goal.returns-in_default
+returns-in_default g c =
     let m = g.F.Flash.model in
-    let seen = c.in-ok-seen.ensures in
+    let seen = c.in_ok-seen.ensures in
     erase_none (sizes_of c.args.plan.now) c.args.bar.now m.kind (m.meaning c.args.flash.now) c.if-bar.false seen.0
-    c.in-ok-seen.seen seen.2 seen.1 c.newest.result c.newest.ensures c.after-round.result c.block-count.result c.after-round.ensures c.block-count.ensures.answer
-    c.in-default.ensures
+    c.in_ok-seen.seen seen.2 seen.1 c.newest.result c.newest.ensures c.after-round.result c.block_count.result c.after-round.ensures c.block_count.ensures.answer
+    c.in_default.ensures
 
 pub returns : goal.returns
 returns g c =
     let m = g.F.Flash.model in
-    let seen = c.in-ok-seen.ensures in
+    let seen = c.in_ok-seen.ensures in
     erase_some (sizes_of c.args.plan.now) c.args.bar.now m.kind (m.meaning c.args.flash.now) c.if-bar.false seen.0
-    c.in-ok-seen.seen seen.2 seen.1 c.newest.result c.newest.ensures c.after-round.result c.block-count.result c.after-round.ensures c.block-count.ensures.answer
+    c.in_ok-seen.seen seen.2 seen.1 c.newest.result c.newest.ensures c.after-round.result c.block_count.result c.after-round.ensures c.block_count.ensures.answer
     c.in-Some.block c.in-Some.ensures

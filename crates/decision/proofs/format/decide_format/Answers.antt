@@ -8,5 +8,5 @@ pub returns : goal.returns
 returns g c =
     let s = g.F.Flash.model.meaning c.args.flash.now in
     let p = sizes_of c.args.plan.now in
-    let seen = c.in-ok-seen.ensures in
-    (search rules, seen.0, groups_tabled s.count s.word p c.in-ok-seen.seen c.group-blocks.result c.group-blocks.ensures seen.1 seen.2)
+    let seen = c.in_ok-seen.ensures in
+    (search rules, seen.0, groups_tabled s.count s.word p c.in_ok-seen.seen c.group_blocks.result c.group_blocks.ensures seen.1 seen.2)

@@ -13,30 +13,30 @@ use Rattle.writing.specs.Listed.{listed}
 use Rattle.decision.proofs.Writing.{blocks_wanted, write_spent, write_roomless, write_decided}
 use Rattle.decision.proofs.write.decide_write.Goals as goal
 
-pub returns-in-default-next-serial : goal.returns-in-default-next-serial
-returns-in-default-next-serial g c =
+pub returns-in_default-next_serial : goal.returns-in_default-next_serial
+returns-in_default-next_serial g c =
     let m = g.F.Flash.model in
-    let seen = c.in-ok-seen.ensures in
+    let seen = c.in_ok-seen.ensures in
     let known = c.in-Some.ensures in
     record {
       decided = write_spent (sizes_of c.args.plan.now) c.args.number.0 c.args.data.now c.args.bar.now m.kind (m.meaning c.args.flash.now)
-          known.0 (c.if-data-size.false ∙ known.1) c.if-bar.false seen.0 c.in-ok-seen.seen seen.1 c.newest-latest.result c.newest-latest.ensures c.in-default-next-serial.ensures;
+          known.0 (c.if-data-size.false ∙ known.1) c.if-bar.false seen.0 c.in_ok-seen.seen seen.1 c.newest-latest.result c.newest-latest.ensures c.in_default-next_serial.ensures;
       leads = tt;
     }
 
-pub returns-in-err-check-room : goal.returns-in-err-check-room
-returns-in-err-check-room g c =
+pub returns-in_err-check_room : goal.returns-in_err-check_room
+returns-in_err-check_room g c =
     let m = g.F.Flash.model in
     let s = m.meaning c.args.flash.now in
     let p = sizes_of c.args.plan.now in
-    let seen = c.in-ok-seen.ensures in
+    let seen = c.in_ok-seen.ensures in
     let known = c.in-Some.ensures in
-    let e = err_from_is_err_and c.from-residual-in-err-check-room.result c.from-residual-in-err-check-room.ensures.1 in
+    let e = err_from_is_err_and c.from_residual-in_err-check_room.result c.from_residual-in_err-check_room.ensures.1 in
     rw (e.1, e.2) (record {
       decided = write_roomless p c.args.number.0 c.args.data.now c.args.bar.now m.kind s
-          known.0 (c.if-data-size.false ∙ known.1) c.if-bar.false seen.0 c.in-ok-seen.seen seen.1 c.newest-latest.result c.newest-latest.ensures
-          c.in-Some-next-serial.serial c.in-Some-next-serial.ensures c.counts.result (c.counts.ensures ∙ tally_counted s.count s.word p c.in-ok-seen.seen.survey seen.2 c.block-count.ensures.shape.few)
-          (1 + c.follower-count-need.result) (blocks_wanted p c.args.number.0 c.in-Some.size c.follower-count-need.result known.1 c.follower-count-need.ensures.count) _ c.in-err-check-room.ensures;
+          known.0 (c.if-data-size.false ∙ known.1) c.if-bar.false seen.0 c.in_ok-seen.seen seen.1 c.newest-latest.result c.newest-latest.ensures
+          c.in-Some-next_serial.serial c.in-Some-next_serial.ensures c.counts.result (c.counts.ensures ∙ tally_counted s.count s.word p c.in_ok-seen.seen.survey seen.2 c.block_count.ensures.shape.few)
+          (1 + c.follower_count-need.result) (blocks_wanted p c.args.number.0 c.in-Some.size c.follower_count-need.result known.1 c.follower_count-need.ensures.count) _ c.in_err-check_room.ensures;
       leads = tt;
     })
 
@@ -49,17 +49,17 @@ returns g c =
     let n = c.args.number.0 in
     let d = c.args.data.now in
     let z = c.in-Some.size in
-    let seen = c.in-ok-seen.ensures in
+    let seen = c.in_ok-seen.ensures in
     let known = c.in-Some.ensures in
     let sized : length d ≡ size p n = c.if-data-size.false ∙ known.1 in
-    let tallied : c.counts.result ≡ counts_of s.count s.word p = c.counts.ensures ∙ tally_counted s.count s.word p c.in-ok-seen.seen.survey seen.2 c.block-count.ensures.shape.few in
-    let wanted = blocks_wanted p n z c.follower-count-need.result known.1 c.follower-count-need.ensures.count in
+    let tallied : c.counts.result ≡ counts_of s.count s.word p = c.counts.ensures ∙ tally_counted s.count s.word p c.in_ok-seen.seen.survey seen.2 c.block_count.ensures.shape.few in
+    let wanted = blocks_wanted p n z c.follower_count-need.result known.1 c.follower_count-need.ensures.count in
     let planned : Planned p = front_planned plan.sizes plan.count plan.whole plan.few plan.some plan.sized in
-    let bytes : All (λ x. x < 256) d = All-from_get_or (λ x. x < 256) d 0 (λ i h. Fits-lt-pow (c.type-inv.data i)) in
-    let few : 1 + c.follower-count-need.result ≤ 20 = omega (arith, c.follower-count-need.ensures.few known.3) in
+    let bytes : All (λ x. x < 256) d = All-from_get_or (λ x. x < 256) d 0 (λ i h. Fits-lt-pow (c.type_inv.data i)) in
+    let few : 1 + c.follower_count-need.result ≤ 20 = omega (arith, c.follower_count-need.ensures.few known.3) in
     let w =
-    write_decided p n d c.args.bar.now m.kind s known.0 sized c.if-bar.false seen.0 c.in-ok-seen.seen seen.1 c.newest-latest.result c.newest-latest.ensures
-    c.in-Some-next-serial.serial c.in-Some-next-serial.ensures c.counts.result tallied (1 + c.follower-count-need.result) wanted
-    c.in-ok-check-room.field-0 c.in-ok-check-room.ensures c.block-count.ensures.shape planned bytes seen.2
-    c.after-round.result c.block-count.result c.after-round.ensures c.block-count.ensures.answer few (listed c.take-free.result) c.take-free.ensures z known.1 in
+    write_decided p n d c.args.bar.now m.kind s known.0 sized c.if-bar.false seen.0 c.in_ok-seen.seen seen.1 c.newest-latest.result c.newest-latest.ensures
+    c.in-Some-next_serial.serial c.in-Some-next_serial.ensures c.counts.result tallied (1 + c.follower_count-need.result) wanted
+    c.in_ok-check_room.field-0 c.in_ok-check_room.ensures c.block_count.ensures.shape planned bytes seen.2
+    c.after-round.result c.block_count.result c.after-round.ensures c.block_count.ensures.answer few (listed c.take_free.result) c.take_free.ensures z known.1 in
     record { decided = w.0; leads = w.1 }

@@ -7,12 +7,12 @@ use Rattle.layout.specs.Plans.{sizes_of}
 use Rattle.layout.proofs.Firsts.{fields_told, not_first}
 use Rattle.layout.proofs.check.is_first_block.Goals as goal
 
-pub returns-in-default : goal.returns-in-default
+pub returns-in_default : goal.returns-in_default
 unfolding candidate
-returns-in-default c = let z = c.in-default.ensures in grind (arith, nat_tests)
+returns-in_default c = let z = c.in_default.ensures in grind (arith, nat_tests)
 
-pub returns-in-default-fields : goal.returns-in-default-fields
-returns-in-default-fields c = not_first (sizes_of c.args.plan.now) c.args.number.0 (words_of c.args.block.now) c.in-default-fields.ensures
+pub returns-in_default-fields : goal.returns-in_default-fields
+returns-in_default-fields c = not_first (sizes_of c.args.plan.now) c.args.number.0 (words_of c.args.block.now) c.in_default-fields.ensures
 
 pub returns-then-fields-number : goal.returns-then-fields-number
 unfolding candidate coded
@@ -35,23 +35,23 @@ returns-then-fields-code c =
     let f = fields_told (words_of c.args.block.now) _ c.in-Some-fields.ensures in
     grind (arith, nat_tests)
 
-pub returns-then-not-all-written : goal.returns-then-not-all-written
+pub returns-then-not-all_written : goal.returns-then-not-all_written
 unfolding candidate coded
-returns-then-not-all-written c =
+returns-then-not-all_written c =
     let z = c.in-Some.ensures in
     let f = fields_told (words_of c.args.block.now) _ c.in-Some-fields.ensures in
     grind (arith, nat_tests)
 
-pub returns-then-not-all-blank : goal.returns-then-not-all-blank
+pub returns-then-not-all_blank : goal.returns-then-not-all_blank
 unfolding candidate coded
-returns-then-not-all-blank c =
+returns-then-not-all_blank c =
     let z = c.in-Some.ensures in
     let f = fields_told (words_of c.args.block.now) _ c.in-Some-fields.ensures in
     grind (arith, nat_tests)
 
-pub returns-in-default-word : goal.returns-in-default-word
+pub returns-in_default-word : goal.returns-in_default-word
 unfolding candidate coded
-returns-in-default-word c =
+returns-in_default-word c =
     let z = c.in-Some.ensures in
     let f = fields_told (words_of c.args.block.now) _ c.in-Some-fields.ensures in
     grind (arith, nat_tests)

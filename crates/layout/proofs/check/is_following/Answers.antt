@@ -8,13 +8,13 @@ pub returns-then-kind-number : goal.returns-then-kind-number
 unfolding follows
 returns-then-kind-number c = grind (arith, nat_tests)
 
-pub returns-then-not-all-written : goal.returns-then-not-all-written
+pub returns-then-not-all_written : goal.returns-then-not-all_written
 unfolding follows
-returns-then-not-all-written c = grind (arith, nat_tests)
+returns-then-not-all_written c = grind (arith, nat_tests)
 
-pub returns-then-not-all-blank : goal.returns-then-not-all-blank
+pub returns-then-not-all_blank : goal.returns-then-not-all_blank
 unfolding follows
-returns-then-not-all-blank c = grind (arith, nat_tests)
+returns-then-not-all_blank c = grind (arith, nat_tests)
 
 pub returns-then-written : goal.returns-then-written
 unfolding follows

@@ -7,9 +7,9 @@ use Rattle.pair.proofs.PairFlash.erase.Goals as goal
 pub returns-in-First : goal.returns-in-First
 returns-in-First g c =
     first_seen g.A.Flash.model g.B.Flash.model c.args.self.now (erase c.args.block.0) (erase) c.erase.result c.raise.result
-    c.in-ok-at.field-0 c.in-First.at c.in-ok-at.ensures c.raise.ensures c.erase.new.self c.in-First.is refl c.erase.ensures
+    c.in_ok-at.field-0 c.in-First.at c.in_ok-at.ensures c.raise.ensures c.erase.new.self c.in-First.is refl c.erase.ensures
 
 pub returns-in-Second : goal.returns-in-Second
 returns-in-Second g c =
     second_seen g.A.Flash.model g.B.Flash.model c.args.self.now (erase c.args.block.0) (erase) c.erase-in-Second.result c.raise-in-Second.result
-    c.in-ok-at.field-0 c.in-Second.at c.in-ok-at.ensures c.raise-in-Second.ensures c.erase-in-Second.new.self c.in-Second.is refl c.erase-in-Second.ensures
+    c.in_ok-at.field-0 c.in-Second.at c.in_ok-at.ensures c.raise-in-Second.ensures c.erase-in-Second.new.self c.in-Second.is refl c.erase-in-Second.ensures

@@ -6,5 +6,5 @@ use Rattle.part.proofs.PartFlash.erase.Goals as goal
 
 pub returns : goal.returns
 returns g c =
-    command_seen g.F.Flash.model c.args.self.now c.erase.new.self c.in-ok-at.at c.erase.result c.raise.result
-    (erase c.args.block.0) (erase) c.in-ok-at.ensures refl c.raise.ensures c.erase.ensures
+    command_seen g.F.Flash.model c.args.self.now c.erase.new.self c.in_ok-at.at c.erase.result c.raise.result
+    (erase c.args.block.0) (erase) c.in_ok-at.ensures refl c.raise.ensures c.erase.ensures

@@ -6,4 +6,4 @@ use Rattle.records.proofs.pass.current_heads.Goals as goal
 pub returns : goal.returns
 returns g c =
     let s = g.F.Flash.model.meaning c.args.flash.now in
-    record { answer = c.find-heads.ensures; law = current_is s.count s.word (sizes_of c.args.plan.now) }
+    record { answer = c.find_heads.ensures; law = current_is s.count s.word (sizes_of c.args.plan.now) }

@@ -4,7 +4,7 @@ use Rattle.layout.specs.Plans.{sizes_of}
 use Rattle.records.proofs.Owners.{owner_beyond}
 use Rattle.records.proofs.pass.owned_by.Goals as goal
 
-pub returns-then-block-block-count : goal.returns-then-block-block-count
-returns-then-block-block-count g c =
+pub returns-then-block-block_count : goal.returns-then-block-block_count
+returns-then-block-block_count g c =
     let s = g.F.Flash.model.meaning c.args.flash.now in
-    (c.in-ok-ask-power.ensures.answer.0, owner_beyond s.count s.word (sizes_of c.args.plan.now) c.args.block.0 (omega arith))
+    (c.in_ok-ask_power.ensures.answer.0, owner_beyond s.count s.word (sizes_of c.args.plan.now) c.args.block.0 (omega arith))

@@ -17,25 +17,25 @@ pub enter-requires : goal.enter-requires
 enter-requires g c =
     let s = g.F.Flash.model.meaning c.args.flash.now in
     let p = c.args.plan.now in
-    below_all s.count s.word (sizes_of p) c.loop-b.b c.in-ok-owned.owned (front_few p.sizes p.count p.whole p.few) c.in-ok-owned.ensures.1
+    below_all s.count s.word (sizes_of p) c.loop-b.b c.in_ok-owned.owned (front_few p.sizes p.count p.whole p.few) c.in_ok-owned.ensures.1
 
 pub note-requires : goal.note-requires
-note-requires g c = omega (arith, c.block-count-b-end.ensures.shape.few)
+note-requires g c = omega (arith, c.block_count-b-end.ensures.shape.few)
 
 pub loop-b-preserved : goal.loop-b-preserved
 loop-b-preserved g c =
     let s = g.F.Flash.model.meaning c.args.flash.now in
     let p = c.args.plan.now in (
-      table_more s.count s.word (sizes_of p) c.loop-b.b c.loop-b.found.heads c.note.new.self.heads c.in-ok-owned.owned (front_few p.sizes p.count p.whole p.few) c.loop-b.invariant.0
-          c.in-ok-owned.ensures.1 (ap (λ (h : Heads). h.entries) c.note.ensures.heads ∙ c.enter.ensures),
-      stood_more (λ k. standing (s.word k)) c.loop-b.b c.loop-b.found.standings c.note.new.self.standings c.state-of.result
-          (omega (arith, c.block-count-b-end.ensures.shape.few)) c.loop-b.invariant.1 (c.state-of.ensures ∙ ap standing c.in-ok-words.ensures.1) c.note.ensures.standings,
+      table_more s.count s.word (sizes_of p) c.loop-b.b c.loop-b.found.heads c.note.new.self.heads c.in_ok-owned.owned (front_few p.sizes p.count p.whole p.few) c.loop-b.invariant.0
+          c.in_ok-owned.ensures.1 (ap (λ (h : Heads). h.entries) c.note.ensures.heads ∙ c.enter.ensures),
+      stood_more (λ k. standing (s.word k)) c.loop-b.b c.loop-b.found.standings c.note.new.self.standings c.state_of.result
+          (omega (arith, c.block_count-b-end.ensures.shape.few)) c.loop-b.invariant.1 (c.state_of.ensures ∙ ap standing c.in_ok-words.ensures.1) c.note.ensures.standings,
     )
 
 pub returns : goal.returns
 returns g c =
     let s = g.F.Flash.model.meaning c.args.flash.now in (
-      c.in-ok-ask-power.ensures.answer.0,
+      c.in_ok-ask_power.ensures.answer.0,
       table_all s.count s.word (sizes_of c.args.plan.now) c.loop-b.b c.loop-b.found.heads (omega arith) c.loop-b.invariant.0,
-      stood_all (λ k. standing (s.word k)) c.loop-b.b s.count c.loop-b.found.standings (omega arith) c.block-count-b-end.ensures.shape.few c.loop-b.invariant.1,
+      stood_all (λ k. standing (s.word k)) c.loop-b.b s.count c.loop-b.found.standings (omega arith) c.block_count-b-end.ensures.shape.few c.loop-b.invariant.1,
     )

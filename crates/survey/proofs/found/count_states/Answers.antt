@@ -7,7 +7,7 @@ use Rattle.survey.proofs.found.count_states.Goals as goal
 pub returns : goal.returns
 returns g c =
     let s = g.F.Flash.model.meaning c.args.flash.now in
-    let table = c.in-ok-states.ensures in (
+    let table = c.in_ok-states.ensures in (
       table.0,
-      c.counts.ensures ∙ tally_counted s.count s.word (sizes_of c.args.plan.now) c.in-ok-states.states table.1 c.in-ok-ask-power.ensures.shape.few,
+      c.counts.ensures ∙ tally_counted s.count s.word (sizes_of c.args.plan.now) c.in_ok-states.states table.1 c.in_ok-ask_power.ensures.shape.few,
     )

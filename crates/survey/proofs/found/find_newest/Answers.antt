@@ -7,5 +7,5 @@ use Rattle.survey.proofs.found.find_newest.Goals as goal
 pub returns : goal.returns
 returns g c =
     let s = g.F.Flash.model.meaning c.args.flash.now in
-    let table = c.in-ok-heads.ensures.answer in
-    (table.0, c.newest.ensures ∙ newest_table s.count s.word (sizes_of c.args.plan.now) c.in-ok-heads.heads table.1)
+    let table = c.in_ok-heads.ensures.answer in
+    (table.0, c.newest.ensures ∙ newest_table s.count s.word (sizes_of c.args.plan.now) c.in_ok-heads.heads table.1)

@@ -7,22 +7,22 @@ use Rattle.survey.proofs.used.mark_following.Goals as goal
 pub loop-j-init : goal.loop-j-init
 loop-j-init g c = walk_none _ _ c.args.size c.args.from.0 c.args.used.now c.requires.below c.requires.whole
 
-pub returns-in-err-block : goal.returns-in-err-block
-returns-in-err-block g c =
+pub returns-in_err-block : goal.returns-in_err-block
+returns-in_err-block g c =
     let s = g.F.Flash.model.meaning c.args.flash.now in
-    absurd (not_refused _ s c.loop-j.at.0 _ c.in-ok-ask-power.ensures.answer.0 (walk_below s.count s.word c.args.size _ _ _ _ _ c.loop-j.invariant (omega arith)) c.in-err-block.ensures)
+    absurd (not_refused _ s c.loop-j.at.0 _ c.in_ok-ask_power.ensures.answer.0 (walk_below s.count s.word c.args.size _ _ _ _ _ c.loop-j.invariant (omega arith)) c.in_err-block.ensures)
 
 pub mark-requires : goal.mark-requires
 mark-requires g c =
     let s = g.F.Flash.model.meaning c.args.flash.now in
-    omega (arith, walk_below s.count s.word c.args.size _ _ _ _ _ c.loop-j.invariant (omega arith), c.in-ok-ask-power.ensures.shape.few)
+    omega (arith, walk_below s.count s.word c.args.size _ _ _ _ _ c.loop-j.invariant (omega arith), c.in_ok-ask_power.ensures.shape.few)
 
 pub loop-j-preserved : goal.loop-j-preserved
 loop-j-preserved g c =
     let s = g.F.Flash.model.meaning c.args.flash.now in
-    walk_more s.count s.word c.args.size _ _ _ _ _ c.loop-j.invariant (omega arith) _ _ _ c.in-ok-ask-power.ensures.shape.few c.in-ok-block.ensures.1 c.chain-at.ensures c.mark.ensures
+    walk_more s.count s.word c.args.size _ _ _ _ _ c.loop-j.invariant (omega arith) _ _ _ c.in_ok-ask_power.ensures.shape.few c.in_ok-block.ensures.1 c.chain-at.ensures c.mark.ensures
 
 pub returns : goal.returns
 returns g c =
     let s = g.F.Flash.model.meaning c.args.flash.now in
-    (c.in-ok-ask-power.ensures.answer.0, walk_all s.count s.word c.args.size _ _ _ _ _ c.loop-j.invariant (omega arith))
+    (c.in_ok-ask_power.ensures.answer.0, walk_all s.count s.word c.args.size _ _ _ _ _ c.loop-j.invariant (omega arith))

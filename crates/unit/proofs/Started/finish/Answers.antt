@@ -7,9 +7,9 @@ pub returns : goal.returns
 returns g c =
     let m = g.F.Flash.model in
     let x = c.args.self in
-    let r = c.finish-steps.result in
+    let r = c.finish_steps.result in
     record {
-      told = c.finish-steps.ensures.told;
-      does = finishes_means m ((m.meaning x.flash).count - x.accepted) x.accepted x.flash r.1 r.0.accepted r.0.flash c.finish-steps.ensures.told;
-      plan = c.finish-steps.ensures.plan;
+      told = c.finish_steps.ensures.told;
+      does = finishes_means m ((m.meaning x.flash).count - x.accepted) x.accepted x.flash r.1 r.0.accepted r.0.flash c.finish_steps.ensures.told;
+      plan = c.finish_steps.ensures.plan;
     }

@@ -14,20 +14,20 @@ use Rattle.writing.proofs.giving.write_first.Goals as goal
 abbrev wanted : NewRecord → ℕ → List ℕ → List ℕ
 wanted x next d = first_bytes x.size x.number.0 x.serial next d
 
-pub returns-in-err-program-words : goal.returns-in-err-program-words
+pub returns-in_err-program_words : goal.returns-in_err-program_words
 unfolding first_commands
-returns-in-err-program-words g c =
-    let p = err_from_is_err_and c.from-residual.result c.from-residual.ensures.1 in
+returns-in_err-program_words g c =
+    let p = err_from_is_err_and c.from_residual.result c.from_residual.ensures.1 in
     let b = c.args.block.0 in
-    rw (p.1, p.2) (programs_stop g.F.Flash.model b (held c.first-bytes-bytes.result) (wanted c.args.record.now c.args.next.0 c.args.data.now)
-    c.head-word-count.result (head_words c.args.record.now.size) c.first-bytes-bytes.ensures c.head-word-count.ensures.count
-    (program b 13 mark ∷ []) c.args.flash.now c.program-words.new.flash c.in-err-program-words.field-0.0 c.in-err-program-words.ensures)
+    rw (p.1, p.2) (programs_stop g.F.Flash.model b (held c.first_bytes-bytes.result) (wanted c.args.record.now c.args.next.0 c.args.data.now)
+    c.head_word_count.result (head_words c.args.record.now.size) c.first_bytes-bytes.ensures c.head_word_count.ensures.count
+    (program b 13 mark ∷ []) c.args.flash.now c.program_words.new.flash c.in_err-program_words.field-0.0 c.in_err-program_words.ensures)
 
 pub returns : goal.returns
 unfolding first_commands
 returns g c =
     let b = c.args.block.0 in
-    programs_then g.F.Flash.model b (held c.first-bytes-bytes.result) (wanted c.args.record.now c.args.next.0 c.args.data.now)
-    c.head-word-count.result (head_words c.args.record.now.size) c.first-bytes-bytes.ensures c.head-word-count.ensures.count
-    (program b 13 mark ∷ []) c.args.flash.now c.program-words.new.flash c.program.new.self tt c.program.result c.in-ok-program-words.ensures
-    (one_last g.F.Flash.model (program b 13 mark) c.program-words.new.flash c.program.new.self c.program.result c.program.ensures)
+    programs_then g.F.Flash.model b (held c.first_bytes-bytes.result) (wanted c.args.record.now c.args.next.0 c.args.data.now)
+    c.head_word_count.result (head_words c.args.record.now.size) c.first_bytes-bytes.ensures c.head_word_count.ensures.count
+    (program b 13 mark ∷ []) c.args.flash.now c.program_words.new.flash c.program.new.self tt c.program.result c.in_ok-program_words.ensures
+    (one_last g.F.Flash.model (program b 13 mark) c.program_words.new.flash c.program.new.self c.program.result c.program.ensures)

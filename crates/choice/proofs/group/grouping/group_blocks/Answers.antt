@@ -14,9 +14,9 @@ pub loop-b-preserved : goal.loop-b-preserved
 loop-b-preserved c =
     let b = c.loop-b.b in
     let l : c.loop-b.b < 256 = omega arith in
-    grouped_more c.args.seen.now (sizes_of c.args.plan.now) b c.loop-b.groups _ c.group-of.result l c.loop-b.invariant
-    (c.group-of.ensures ∙ ap (λ (s : Option BlockState). grouped s (get_or c.mark-firsts-firsts.result b false)) c.state.ensures
-    ∙ ap (λ (f : Bool). grouped (entry_in c.args.seen.now.survey b) f) (c.mark-firsts-firsts.ensures b l))
+    grouped_more c.args.seen.now (sizes_of c.args.plan.now) b c.loop-b.groups _ c.group_of.result l c.loop-b.invariant
+    (c.group_of.ensures ∙ ap (λ (s : Option BlockState). grouped s (get_or c.mark_firsts-firsts.result b false)) c.state.ensures
+    ∙ ap (λ (f : Bool). grouped (entry_in c.args.seen.now.survey b) f) (c.mark_firsts-firsts.ensures b l))
     refl
 
 pub returns : goal.returns

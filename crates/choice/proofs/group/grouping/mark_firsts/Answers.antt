@@ -13,7 +13,7 @@ loop-n-init c = λ b l. all_same false 256 b
 
 pub loop-n-preserved : goal.loop-n-preserved
 loop-n-preserved c = λ b l.
-    c.mark-first.ensures b l
+    c.mark_first.ensures b l
     ∙ ap (λ (h : Option Head). begins_at h b || get_or c.loop-n.firsts b false) c.current.ensures
     ∙ ap (λ (t : Bool). begins_at (head_in c.args.heads.now c.loop-n.n) b || t) (c.loop-n.invariant b l)
     ∙ ap (λ (n : ℕ). first_in c.args.heads.now n b) (sym (add-one c.loop-n.n))

@@ -6,8 +6,8 @@ use Rattle.layout.proofs.code.crc_byte.Goals as goal
 
 pub loop-bit-preserved : goal.loop-bit-preserved
 loop-bit-preserved c =
-    c.loop-bit.invariant ∙ crc_bits_more c.loop-bit.-bit 8 c.loop-bit.q (omega arith) ∙ ap (crc_bits (8 - (c.loop-bit.-bit + 1))) (sym c.crc_bit-q.ensures)
+    c.loop-bit.invariant ∙ crc_bits_more c.loop-bit._bit 8 c.loop-bit.q (omega arith) ∙ ap (crc_bits (8 - (c.loop-bit._bit + 1))) (sym c.crc_bit-q.ensures)
 
 pub returns : goal.returns
 unfolding crc_byte
-returns c = sym (c.loop-bit.invariant ∙ crc_bits_end c.loop-bit.-bit 8 c.loop-bit.q (omega arith))
+returns c = sym (c.loop-bit.invariant ∙ crc_bits_end c.loop-bit._bit 8 c.loop-bit.q (omega arith))

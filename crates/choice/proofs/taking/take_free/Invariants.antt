@@ -8,4 +8,4 @@ use Rattle.choice.proofs.taking.take_free.Given as goal
 
 abbrev pub invariant-loop-i : goal.invariant-loop-i
 invariant-loop-i l =
-    Taking (round_of l.round) (take (min l.need 20) (filter (suited Writing l.survey) (round_of l.round))) (min l.need 20) l.-i (listed l.blocks) l.left
+    Taking (round_of l.round) (take (min l.need 20) (filter (suited Writing l.survey) (round_of l.round))) (min l.need 20) l._i (listed l.blocks) l.left

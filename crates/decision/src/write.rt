@@ -2,7 +2,7 @@
 ghost use Rattle.std.specs.Prelude.{◌≡◌, IfOk};
 ghost use Rattle.flash.specs.Lists.{applied_all};
 ghost use Rattle.layout.specs.Plans.{sizes_of};
-ghost use Rattle.writing.specs.Writing.{record_on};
+ghost use Rattle.writing.specs.Sized.{record_on};
 ghost use Rattle.writing.specs.Listed.{listed};
 ghost use Rattle.decision.specs.Decisions.{Decided};
 ghost use Rattle.decision.specs.Calls.{to_write};

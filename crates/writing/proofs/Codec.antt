@@ -5,7 +5,7 @@ use Rattle.std.specs.List.{range_with_len, AllByRecursion as All}
 use Rattle.std.proofs.ByRecursion.{All-take, All-drop, All-append}
 use Rattle.std.proofs.lemmas.Bool.{cond_both, ltb-true}
 use Rattle.flash.specs.State.{Words}
-use Rattle.layout.specs.Sizes.{first_share, share, head_words, data_words}
+use Rattle.layout.specs.Sizes.{Sizes, size, first_share, share, head_words, data_words}
 use Rattle.layout.specs.Fields.{low, held, byte, kind_of, chain, number, serial, code, bytes}
 use Rattle.layout.specs.Code.{crc_bit, crc_bits, crc_byte, crc_from, crc, low_bytes, code_of}
 use Rattle.layout.specs.declared.block_type.BlockType.{BlockType}
@@ -76,16 +76,16 @@ pub code_lt : (n s : ℕ) → code_of n s < 65536
 unfolding code_of crc
 code_lt n s = crc_from_lt (low_bytes 2 n ++ low_bytes 4 s) 65535 (All-append (λ x. x < 256) (low_bytes 2 n) (low_bytes 4 s) (low_small 2 n) (low_small 4 s)) (omega arith)
 
-pub first_small : (z n s next : ℕ) (d : List ℕ) → Small d → Small (first_bytes z n s next d)
+pub first_small : (p : Sizes) (n s next : ℕ) (d : List ℕ) → Small d → Small (first_bytes p n s next d)
 unfolding first_bytes
-first_small z n s next d h = (
-  cond_both (leb z 41) Short Long (λ (t : BlockType). type_number t < 256) (λ e. omega arith) (λ e. omega arith),
-  All-append (λ x. x < 256) (low_bytes 2 next ++ low_bytes 2 n ++ low_bytes 4 s ++ low_bytes 2 (code_of n s)) (take (first_share z) d)
+first_small p n s next d h = (
+  cond_both (leb (size p n) 41) Short Long (λ (t : BlockType). type_number t < 256) (λ e. omega arith) (λ e. omega arith),
+  All-append (λ x. x < 256) (low_bytes 2 next ++ low_bytes 2 n ++ low_bytes 4 s ++ low_bytes 2 (code_of n s)) (take (first_share (size p n)) d)
       (All-append (λ x. x < 256) (low_bytes 2 next ++ low_bytes 2 n ++ low_bytes 4 s) (low_bytes 2 (code_of n s))
       (All-append (λ x. x < 256) (low_bytes 2 next ++ low_bytes 2 n) (low_bytes 4 s)
       (All-append (λ x. x < 256) (low_bytes 2 next) (low_bytes 2 n) (low_small 2 next) (low_small 2 n)) (low_small 4 s))
       (low_small 2 (code_of n s)))
-      (All-take (λ x. x < 256) (first_share z) d h),
+      (All-take (λ x. x < 256) (first_share (size p n)) d h),
 )
 
 pub follow_small : (s j next : ℕ) (d : List ℕ) → Small d → Small (follow_bytes s j next d)
@@ -97,29 +97,29 @@ follow_small s j next d h = (
 )
 
 -- the fields of a first block whose first words are in place
-module _ (m : Words) (z n s next : ℕ) (d : List ℕ) (h : Small d) where
-  first_byte : (k : ℕ) → m (k / 4) ≡ Some (word_of (first_bytes z n s next d) (k / 4)) → byte m k ≡ get_or (first_bytes z n s next d) k 255
-  first_byte k e = byte_read m (first_bytes z n s next d) k (first_small z n s next d h) e
+module _ (m : Words) (p : Sizes) (n s next : ℕ) (d : List ℕ) (h : Small d) where
+  first_byte : (k : ℕ) → m (k / 4) ≡ Some (word_of (first_bytes p n s next d) (k / 4)) → byte m k ≡ get_or (first_bytes p n s next d) k 255
+  first_byte k e = byte_read m (first_bytes p n s next d) k (first_small p n s next d h) e
 
-  pub first_kind : m 0 ≡ Some (word_of (first_bytes z n s next d) 0) → kind_of m ≡ type_number (first_type z)
+  pub first_kind : m 0 ≡ Some (word_of (first_bytes p n s next d) 0) → kind_of m ≡ type_number (first_type (size p n))
   unfolding kind_of first_bytes
   first_kind e = first_byte 0 e
 
-  pub first_chain : next < 65536 → m 0 ≡ Some (word_of (first_bytes z n s next d) 0) → chain m ≡ next
+  pub first_chain : next < 65536 → m 0 ≡ Some (word_of (first_bytes p n s next d) 0) → chain m ≡ next
   unfolding chain first_bytes
   first_chain l e =
       let a : byte m 1 ≡ next % 256 = first_byte 1 e in
       let b : byte m 2 ≡ next / 256 % 256 = first_byte 2 e in
       rw (a, b) (omega arith)
 
-  pub first_number : n < 65536 → m 0 ≡ Some (word_of (first_bytes z n s next d) 0) → m 1 ≡ Some (word_of (first_bytes z n s next d) 1) → number m ≡ n
+  pub first_number : n < 65536 → m 0 ≡ Some (word_of (first_bytes p n s next d) 0) → m 1 ≡ Some (word_of (first_bytes p n s next d) 1) → number m ≡ n
   unfolding number first_bytes
   first_number l e f =
       let a : byte m 3 ≡ n % 256 = first_byte 3 e in
       let b : byte m 4 ≡ n / 256 % 256 = first_byte 4 f in
       rw (a, b) (omega arith)
 
-  pub first_serial : s < 4294967296 → m 1 ≡ Some (word_of (first_bytes z n s next d) 1) → m 2 ≡ Some (word_of (first_bytes z n s next d) 2) → serial m ≡ s
+  pub first_serial : s < 4294967296 → m 1 ≡ Some (word_of (first_bytes p n s next d) 1) → m 2 ≡ Some (word_of (first_bytes p n s next d) 2) → serial m ≡ s
   unfolding serial first_bytes
   first_serial l e f =
       let a0 : byte m 5 ≡ s % 256 = first_byte 5 e in
@@ -128,7 +128,7 @@ module _ (m : Words) (z n s next : ℕ) (d : List ℕ) (h : Small d) where
       let a3 : byte m 8 ≡ s / 256 / 256 / 256 % 256 = first_byte 8 f in
       rw (a0, a1, a2, a3) (omega arith)
 
-  pub first_code : m 2 ≡ Some (word_of (first_bytes z n s next d) 2) → code m ≡ code_of n s
+  pub first_code : m 2 ≡ Some (word_of (first_bytes p n s next d) 2) → code m ≡ code_of n s
   unfolding code first_bytes
   first_code e =
       let l : code_of n s < 65536 = code_lt n s in
@@ -136,16 +136,16 @@ module _ (m : Words) (z n s next : ℕ) (d : List ℕ) (h : Small d) where
       let a1 : byte m 10 ≡ code_of n s / 256 % 256 = first_byte 10 e in
       rw (a0, a1) (omega arith)
 
-  pub first_data : z ≤ length d → ((w : ℕ) → w < head_words z → m w ≡ Some (word_of (first_bytes z n s next d) w))
-      → bytes m 11 (first_share z) ≡ take (first_share z) d
+  pub first_data : size p n ≤ length d → ((w : ℕ) → w < head_words (size p n) → m w ≡ Some (word_of (first_bytes p n s next d) w))
+      → bytes m 11 (first_share (size p n)) ≡ take (first_share (size p n)) d
   unfolding bytes head_words first_share first_bytes
   first_data l e =
-      bytes_read (byte m) 11 (first_share z) (take (first_share z) d)
-      (length-take (min z 41) d ∙ omega arith)
+      bytes_read (byte m) 11 (first_share (size p n)) (take (first_share (size p n)) d)
+      (length-take (min (size p n) 41) d ∙ omega arith)
       (λ i q. first_byte (11 + i) (e ((11 + i) / 4) (omega arith)) ∙ at i)
     where
-      at : (i : ℕ) → get_or (first_bytes z n s next d) (11 + i) 255 ≡ get_or (take (min z 41) d) i 255
-      at i = let e : 11 + i ≡ suc (suc (suc (suc (suc (suc (suc (suc (suc (suc (suc (i))))))))))) = omega arith in ap (λ (k : ℕ). get_or (first_bytes z n s next d) k 255) e
+      at : (i : ℕ) → get_or (first_bytes p n s next d) (11 + i) 255 ≡ get_or (take (min (size p n) 41) d) i 255
+      at i = let e : 11 + i ≡ suc (suc (suc (suc (suc (suc (suc (suc (suc (suc (suc (i))))))))))) = omega arith in ap (λ (k : ℕ). get_or (first_bytes p n s next d) k 255) e
 
 module _ (m : Words) (s j next : ℕ) (d : List ℕ) (h : Small d) where
   follow_byte : (k : ℕ) → m (k / 4) ≡ Some (word_of (follow_bytes s j next d) (k / 4)) → byte m k ≡ get_or (follow_bytes s j next d) k 255

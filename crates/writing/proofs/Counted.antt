@@ -3,7 +3,7 @@ use Rattle.std.proofs.Common.{◌≡◌, ℕ, suc, ◌+◌, ◌-◌, ◌<◌, �
 use Rattle.std.proofs.lemmas.List.FromFn.{length-map-range_with_len}
 use Rattle.flash.specs.Commands.{program}
 use Rattle.clearing.specs.Clearing.{mark}
-use Rattle.layout.specs.Sizes.{followers, head_words, data_words}
+use Rattle.layout.specs.Sizes.{size, followers, head_words, data_words}
 use Rattle.layout.proofs.Loops.{left_suc, left_none}
 use Rattle.writing.specs.Writing.{word_of, first_bytes, follow_bytes, programs, next_of, follow_commands, first_commands, record_commands, follow_count, commands_of}
 use Rattle.writing.specs.Law.{Counts}
@@ -22,11 +22,12 @@ length_follow s b d j (c ∷ cs) =
 
 pub record_counts : (z : ℕ) → Counts z (commands_of z)
 unfolding record_commands first_commands commands_of
-record_counts z n s d b bs f =
-    length-append (follow_commands z b d 0 bs) (programs b (first_bytes z n s (next_of b bs) d) (head_words z) ++ (program b 13 mark ∷ []))
-    ∙ (let g = length-append (programs b (first_bytes z n s (next_of b bs) d) (head_words z)) (program b 13 mark ∷ []) in
-    let h = length_programs b (first_bytes z n s (next_of b bs) d) (head_words z) in
-    let i : length (follow_commands z b d 0 bs) ≡ follow_count z 0 (followers z) = length_follow z b d 0 bs ∙ ap (follow_count z 0) f in
+record_counts z p n s d b bs e f =
+    length-append (follow_commands (size p n) b d 0 bs) (programs b (first_bytes p n s (next_of b bs) d) (head_words (size p n)) ++ (program b 13 mark ∷ []))
+    ∙ (let g = length-append (programs b (first_bytes p n s (next_of b bs) d) (head_words (size p n))) (program b 13 mark ∷ []) in
+    let h = length_programs b (first_bytes p n s (next_of b bs) d) (head_words (size p n)) in
+    let i : length (follow_commands (size p n) b d 0 bs) ≡ follow_count z 0 (followers z) = length_follow (size p n) b d 0 bs ∙ ap (λ k. follow_count k 0 (length bs)) e ∙ ap (follow_count z 0) f in
+    let k : head_words (size p n) ≡ head_words z = ap head_words e in
     omega arith)
 
 -- a count that has come to following block j

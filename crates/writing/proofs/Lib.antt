@@ -1,5 +1,6 @@
 -- Lemmas: bytes put into words are read back; words filled one by one; the record that is left; how many commands there are;
--- the bytes of a block from their parts; lists of commands tried one after another; the commands that are left; that none is refused.
+-- the bytes of a block from their parts; lists of commands tried one after another; the commands that are left; that none is refused;
+-- that the size is all that they take of a plan.
 pub mod Codec
 pub mod Fill
 pub mod Written
@@ -8,3 +9,4 @@ pub mod Parts
 pub mod Joined
 pub mod Steps
 pub mod Taken
+pub mod BySize

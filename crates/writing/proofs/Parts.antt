@@ -7,7 +7,8 @@ use Rattle.layout.specs.declared.block_type.BlockType.TheVariants.{Following}
 use Rattle.layout.specs.Sizes.{first_share, share}
 use Rattle.layout.specs.Code.{code_of}
 use Rattle.layout.specs.Sound.{type_number, first_type}
-use Rattle.writing.specs.Writing.{first_bytes, follow_bytes}
+use Rattle.writing.specs.Writing.{follow_bytes}
+use Rattle.writing.specs.Sized.{first_bytes_by_size}
 
 -- two bytes, and four bytes, of a number
 abbrev two : ℕ → List ℕ
@@ -42,8 +43,8 @@ push_more e part h k i l p q =
     q ∙ ap (λ (x : List ℕ). x ++ get_or part i 0 ∷ []) p ∙ append_assoc e (take i part) (get_or part i 0 ∷ []) ∙ ap (λ (x : List ℕ). e ++ x) (sym (take_more part i 0 l))
 
 first_parts : (z n s next : ℕ) (d : List ℕ)
-    → type_number (first_type z) ∷ (two next ++ (two n ++ (four s ++ (two (code_of n s) ++ take (first_share z) d)))) ≡ first_bytes z n s next d
-unfolding first_bytes
+    → type_number (first_type z) ∷ (two next ++ (two n ++ (four s ++ (two (code_of n s) ++ take (first_share z) d)))) ≡ first_bytes_by_size z n s next d
+unfolding first_bytes_by_size
 first_parts z n s next d = simp div-div-eq-div-mul
 
 follow_parts : (z j next : ℕ) (d : List ℕ) → type_number Following ∷ (two next ++ take (share z j) (drop (41 + 53 * j) d)) ≡ follow_bytes z j next d
@@ -53,7 +54,7 @@ follow_parts z j next d = refl
 -- the bytes of a first block, part by part
 pub first_made : (z n s next : ℕ) (d h0 h1 h2 h3 h4 h5 h6 a b e f : List ℕ) (k c t : ℕ)
     → h0 ≡ [] → k ≡ type_number (first_type z) → h1 ≡ h0 ++ k ∷ [] → a ≡ two next → h2 ≡ h1 ++ a → b ≡ two n → h3 ≡ h2 ++ b → e ≡ four s → h4 ≡ h3 ++ e
-    → c ≡ code_of n s → f ≡ two c → h5 ≡ h4 ++ f → t ≡ min (length d) (first_share z) → h6 ≡ h5 ++ take t d → h6 ≡ first_bytes z n s next d
+    → c ≡ code_of n s → f ≡ two c → h5 ≡ h4 ++ f → t ≡ min (length d) (first_share z) → h6 ≡ h5 ++ take t d → h6 ≡ first_bytes_by_size z n s next d
 first_made z n s next d h0 h1 h2 h3 h4 h5 h6 a b e f k c t q0 ek q1 ea q2 eb q3 ee q4 ec ef q5 et q6 =
     let most = take_most t (first_share z) d et in
     rw (q6, q5, q4, q3, q2, q1, q0, ek, ea, eb, ee, ef, ec, most) (first_parts z n s next d)

@@ -10,7 +10,8 @@ use Rattle.flash.specs.Rules.{Model, Obeys}
 use Rattle.flash.specs.Lists.{Tried}
 use Rattle.layout.specs.Sizes.{data_words}
 use Rattle.layout.proofs.Loops.{left_suc, left_none}
-use Rattle.writing.specs.Writing.{word_of, follow_bytes, programs, next_of, follow_commands, following_commands, first_commands, record_commands, record_on, block_commands}
+use Rattle.writing.specs.Writing.{word_of, follow_bytes, programs, next_of, follow_commands}
+use Rattle.writing.specs.Sized.{following_commands, first_commands_by_size, record_commands_by_size, record_on, block_commands}
 use Rattle.writing.specs.Listed.{block_in}
 use Rattle.writing.proofs.Joined.{one_then, one_stop, tried_then, tried_stop}
 
@@ -105,7 +106,7 @@ module _ (z n s : ℕ) (d : List ℕ) where
   -- what is left where following block j is the next
   abbrev pub left : List ℕ → ℕ → List Command
   left [] j = []
-  left (b ∷ bs) j = follow_commands z b d j (drop j bs) ++ first_commands z n s d b (next_of b bs)
+  left (b ∷ bs) j = follow_commands z b d j (drop j bs) ++ first_commands_by_size z n s d b (next_of b bs)
 
   follow_more : (b : ℕ) (bs : List ℕ) (j k : ℕ)
       → follow_commands z b d j (drop k bs) ≡ following_commands z b d j (drop k bs) ++ follow_commands z b d (suc j) (drop (suc k) bs)
@@ -118,17 +119,17 @@ module _ (z n s : ℕ) (d : List ℕ) where
   pub left_more : (l : List ℕ) (j : ℕ) → left l j ≡ block_commands z n s d l (suc j) ++ left l (suc j)
   left_more [] j = refl
   left_more (b ∷ bs) j =
-      ap (λ (cs : List Command). cs ++ first_commands z n s d b (next_of b bs)) (follow_more b bs j j)
-      ∙ append_assoc (following_commands z b d j (drop j bs)) (follow_commands z b d (suc j) (drop (suc j) bs)) (first_commands z n s d b (next_of b bs))
+      ap (λ (cs : List Command). cs ++ first_commands_by_size z n s d b (next_of b bs)) (follow_more b bs j j)
+      ∙ append_assoc (following_commands z b d j (drop j bs)) (follow_commands z b d (suc j) (drop (suc j) bs)) (first_commands_by_size z n s d b (next_of b bs))
 
   -- after the last following block, the first block
   pub left_last : (l : List ℕ) (j : ℕ) → length l ≤ suc j → left l j ≡ block_commands z n s d l 0
   left_last [] j h = refl
-  left_last (b ∷ bs) j h = at_drop_all (λ (t : List ℕ). follow_commands z b d j t ++ first_commands z n s d b (next_of b bs)) bs j (omega arith)
+  left_last (b ∷ bs) j h = at_drop_all (λ (t : List ℕ). follow_commands z b d j t ++ first_commands_by_size z n s d b (next_of b bs)) bs j (omega arith)
 
   -- at the start, the whole record
   pub left_all : (l : List ℕ) → left l 0 ≡ record_on z n s d l
-  unfolding record_commands
+  unfolding record_commands_by_size
   left_all [] = refl
   left_all (b ∷ bs) = refl
 

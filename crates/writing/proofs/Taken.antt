@@ -49,7 +49,7 @@ follow_taken count s first d (c ∷ cs) j m apart inside free =
 
 -- the whole record
 pub record_taken : (count : ℕ) (p : Sizes) (n s : ℕ) (d : List ℕ) (b : ℕ) (bs : List ℕ) (m : Memory) → Suits count p n s d b bs m
-    → Taken count (record_commands (size p n) n s d b bs) m
+    → Taken count (record_commands p n s d b bs) m
 unfolding record_commands first_commands
 record_taken count p n s d b bs m suits =
     taken_then count (follow_commands (size p n) b d 0 bs) (programs b l k ++ (program b 13 mark ∷ [])) m
@@ -59,7 +59,7 @@ record_taken count p n s d b bs m suits =
     ((suits.inside.0, omega arith, programs_beyond b l k m₀ b 13 high ∙ blank 13 (omega arith)), tt))
   where
     l : List ℕ
-    l = first_bytes (size p n) n s (next_of b bs) d
+    l = first_bytes p n s (next_of b bs) d
 
     k : ℕ
     k = head_words (size p n)

@@ -41,7 +41,7 @@ module _ (count : ℕ) (p : Sizes) (n s : ℕ) (d : List ℕ) (b : ℕ) (bs : Li
   next = next_of b bs
 
   abbrev l : List ℕ
-  l = first_bytes (size p n) n s next d
+  l = first_bytes p n s next d
 
   abbrev k : ℕ
   k = head_words (size p n)
@@ -56,7 +56,7 @@ module _ (count : ℕ) (p : Sizes) (n s : ℕ) (d : List ℕ) (b : ℕ) (bs : Li
   abbrev m' : Memory
   m' = put m₁ b 13 (Some mark)
 
-  done_is : applied_all (record_commands (size p n) n s d b bs) m ≡ m'
+  done_is : applied_all (record_commands p n s d b bs) m ≡ m'
   unfolding record_commands first_commands
   done_is = applied_append (follow_commands (size p n) b d 0 bs) (programs b l k ++ (program b 13 mark ∷ [])) m ∙ applied_append (programs b l k) (program b 13 mark ∷ []) m₀
 
@@ -91,17 +91,17 @@ module _ (count : ℕ) (p : Sizes) (n s : ℕ) (d : List ℕ) (b : ℕ) (bs : Li
   named = omega (arith, suits.known, suits.planned.few)
 
   num : number (m' b) ≡ n
-  num = first_number (m' b) (size p n) n s next d suits.bytes named (at 0 (omega arith)) (at 1 (omega arith))
+  num = first_number (m' b) p n s next d suits.bytes named (at 0 (omega arith)) (at 1 (omega arith))
 
   ser : serial (m' b) ≡ s
-  ser = first_serial (m' b) (size p n) n s next d suits.bytes suits.counted (at 1 (omega arith)) (at 2 (omega arith))
+  ser = first_serial (m' b) p n s next d suits.bytes suits.counted (at 1 (omega arith)) (at 2 (omega arith))
 
   is_candidate : candidate p n (m' b) ≡ true
   unfolding candidate
   is_candidate =
       and_from _ _ (and_from _ _ (and_from _ _ (and_from _ _ (and_from _ _ (and_from _ _ (and_from _ _
       (lt-ltb n (numbers p) suits.known)
-      (eq-eqb _ _ (first_kind (m' b) (size p n) n s next d suits.bytes (at 0 (omega arith)))))
+      (eq-eqb _ _ (first_kind (m' b) p n s next d suits.bytes (at 0 (omega arith)))))
       (eq-eqb _ _ num))
       (all_from_by _ 0 (k - 0) (λ w a h. ap written (filled w (omega arith)))))
       (all_from_by _ k (13 - k) (λ w a h. not_from_false (written (m' b w)) (ap written (beyond w a (omega (arith, high)) (omega (arith, high)))))))
@@ -111,10 +111,10 @@ module _ (count : ℕ) (p : Sizes) (n s : ℕ) (d : List ℕ) (b : ℕ) (bs : Li
 
   is_coded : coded (m' b) ≡ true
   unfolding coded
-  is_coded = eq-eqb _ _ (first_code (m' b) (size p n) n s next d suits.bytes (at 2 (omega arith)) ∙ ap (λ x. code_of x s) (sym num) ∙ ap (code_of (number (m' b))) (sym ser))
+  is_coded = eq-eqb _ _ (first_code (m' b) p n s next d suits.bytes (at 2 (omega arith)) ∙ ap (λ x. code_of x s) (sym num) ∙ ap (code_of (number (m' b))) (sym ser))
 
   ch : chain (m' b) ≡ next
-  ch = first_chain (m' b) (size p n) n s next d suits.bytes (next_small count b suits.few suits.inside.0 bs suits.inside.1) (at 0 (omega arith))
+  ch = first_chain (m' b) p n s next d suits.bytes (next_small count b suits.few suits.inside.0 bs suits.inside.1) (at 0 (omega arith))
 
   others : (x : ℕ) → (x ≡ b → ⊥) → (w : ℕ) → m' x w ≡ m₀ x w
   others x h w = put_other m₁ b 13 (Some mark) x h w ∙ ap (λ (v : Words). v w) (programs_other b l k m₀ x h)
@@ -139,7 +139,7 @@ module _ (count : ℕ) (p : Sizes) (n s : ℕ) (d : List ℕ) (b : ℕ) (bs : Li
   is_kept = rw (da, ch, sym suits.enough, rest) (join (cases_lt (size p n) 41))
     where
       da : bytes (m' b) 11 (first_share (size p n)) ≡ take (first_share (size p n)) d
-      da = first_data (m' b) (size p n) n s next d suits.bytes (omega (arith, suits.sized)) filled
+      da = first_data (m' b) p n s next d suits.bytes (omega (arith, suits.sized)) filled
 
       rest : data_from m' (size p n) 0 next (length bs) ≡ drop 41 d
       rest = image_data (size p n) b d suits.bytes count suits.few suits.inside.0 m' bs 0 suits.inside.1 in_place suits.sized (omega (arith, suits.enough))

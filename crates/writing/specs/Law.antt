@@ -50,9 +50,9 @@ pub record Wrote (count : ℕ) (p : Sizes) (n s : ℕ) (d : List ℕ) (b : ℕ) 
 abbrev pub SoundWhenDone : Type 0
 SoundWhenDone =
     (count : ℕ) (p : Sizes) (n s : ℕ) (d : List ℕ) (b : ℕ) (bs : List ℕ) (m : Memory) → Suits count p n s d b bs m
-    → Wrote count p n s d b bs m (applied_all (record_commands (size p n) n s d b bs) m)
+    → Wrote count p n s d b bs m (applied_all (record_commands p n s d b bs) m)
 
 -- the count of commands depends on the size alone, and not on the data or the blocks taken
 abbrev pub Counts : ℕ → ℕ → Type 0
 Counts z r =
-    (n s : ℕ) (d : List ℕ) (b : ℕ) (bs : List ℕ) → length bs ≡ followers z → length (record_commands z n s d b bs) ≡ r
+    (p : Sizes) (n s : ℕ) (d : List ℕ) (b : ℕ) (bs : List ℕ) → size p n ≡ z → length bs ≡ followers z → length (record_commands p n s d b bs) ≡ r

@@ -1,7 +1,8 @@
 //! Giving the commands of a record to a flash: the words of its following blocks, then those of its first block, write end last.
 ghost use Rattle.flash.specs.Lists.{Tried};
 ghost use Rattle.layout.specs.Sizes.{data_words};
-ghost use Rattle.writing.specs.Writing.{follow_bytes, programs, first_commands, block_commands, record_on};
+ghost use Rattle.writing.specs.Writing.{follow_bytes, programs};
+ghost use Rattle.writing.specs.Sized.{first_commands_by_size, block_commands, record_on};
 ghost use Rattle.writing.specs.Filled.{held};
 ghost use Rattle.writing.specs.Listed.{listed};
 
@@ -60,7 +61,7 @@ fn write_first<F: Flash>(
     next: BlockNumber,
     data: &[u8],
 ) -> Result<(), FlashFault>
-    ensures { Tried F.model (first_commands «record».now.size «record».now.number.0 «record».now.serial «data».now block.0 next.0) flash.old result flash.new }
+    ensures { Tried F.model (first_commands_by_size «record».now.size «record».now.number.0 «record».now.serial «data».now block.0 next.0) flash.old result flash.new }
 {
     let bytes = first_bytes(record.size, record.number, record.serial, next, data);
     program_words(flash, block, &bytes, head_word_count(record.size))?;

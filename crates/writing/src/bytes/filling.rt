@@ -1,6 +1,7 @@
 //! Putting the fields and the data of a block into its bytes, and reading bytes and words.
 ghost use Rattle.std.specs.Prelude.{◌≡◌, ◌+◌, ◌<◌, ◌≤◌, [], ◌∷◌, ◌++◌, length, slice_index_or};
-ghost use Rattle.writing.specs.Writing.{word_of, first_bytes, follow_bytes};
+ghost use Rattle.writing.specs.Writing.{word_of, follow_bytes};
+ghost use Rattle.writing.specs.Sized.{first_bytes_by_size};
 ghost use Rattle.writing.specs.Filled.{held};
 
 use crate::bytes::BlockBytes;
@@ -84,7 +85,7 @@ pub fn first_bytes(
     next: BlockNumber,
     data: &[u8],
 ) -> BlockBytes
-    ensures { held result ≡ first_bytes size number.0 serial next.0 «data».now }
+    ensures { held result ≡ first_bytes_by_size size number.0 serial next.0 «data».now }
 {
     let len = data.len().min(first_share_of(size) as usize);
     let mut bytes = BlockBytes::none();

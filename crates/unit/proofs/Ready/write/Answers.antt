@@ -5,7 +5,7 @@ use Rattle.flash.specs.State.{State, Memory}
 use Rattle.flash.specs.Lists.{Through, Cut}
 use Rattle.flash.proofs.Lists.{through_means}
 use Rattle.layout.specs.Plans.{sizes_of}
-use Rattle.writing.specs.Writing.{record_on}
+use Rattle.writing.specs.Sized.{record_on}
 use Rattle.writing.specs.Listed.{listed}
 use Rattle.decision.specs.declared.fault.UnitFault.TheVariants.{Flash}
 use Rattle.decision.specs.Decisions.{Performs}

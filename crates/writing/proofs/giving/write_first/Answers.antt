@@ -5,17 +5,17 @@ use Rattle.flash.specs.Commands.{program}
 use Rattle.clearing.specs.Clearing.{mark}
 use Rattle.layout.specs.Sizes.{head_words}
 use Rattle.writing.specs.declared.record.NewRecord.{NewRecord}
-use Rattle.writing.specs.Writing.{first_bytes, first_commands}
+use Rattle.writing.specs.Sized.{first_bytes_by_size, first_commands_by_size}
 use Rattle.writing.specs.Filled.{held}
 use Rattle.writing.proofs.Joined.{one_last}
 use Rattle.writing.proofs.Steps.{programs_then, programs_stop}
 use Rattle.writing.proofs.giving.write_first.Goals as goal
 
 abbrev wanted : NewRecord → ℕ → List ℕ → List ℕ
-wanted x next d = first_bytes x.size x.number.0 x.serial next d
+wanted x next d = first_bytes_by_size x.size x.number.0 x.serial next d
 
 pub returns-in_err-program_words : goal.returns-in_err-program_words
-unfolding first_commands
+unfolding first_commands_by_size
 returns-in_err-program_words g c =
     let p = err_from_is_err_and c.from_residual.result c.from_residual.ensures.1 in
     let b = c.args.block.0 in
@@ -24,7 +24,7 @@ returns-in_err-program_words g c =
     (program b 13 mark ∷ []) c.args.flash.now c.program_words.new.flash c.in_err-program_words.field-0.0 c.in_err-program_words.ensures)
 
 pub returns : goal.returns
-unfolding first_commands
+unfolding first_commands_by_size
 returns g c =
     let b = c.args.block.0 in
     programs_then g.F.Flash.model b (held c.first_bytes-bytes.result) (wanted c.args.record.now c.args.next.0 c.args.data.now)

@@ -2,7 +2,7 @@
 use Rattle.std.proofs.Common.{◌-◌, Result}
 use Rattle.flash.specs.declared.fault.FlashFault.{FlashFault}
 use Rattle.flash.specs.Lists.{Tried}
-use Rattle.writing.specs.Writing.{record_on}
+use Rattle.writing.specs.Sized.{record_on}
 use Rattle.writing.specs.Listed.{listed}
 use Rattle.writing.proofs.Steps.{left}
 use Rattle.writing.proofs.giving.write_record.Given as goal

@@ -11,7 +11,7 @@ use choice::round::{Purpose, Round};
 use flash::{BlockNumber, Flash};
 use layout::plan::Plan;
 use survey::newest::newest;
-use survey::overview::look_over;
+use survey::table::pass::look_over;
 
 /// The block that an erase clears: the first spent or half-erased one in the round.
 pub fn decide_erase<F: Flash>(flash: &F, plan: &Plan, bar: &Bar) -> Result<BlockNumber, UnitFault>

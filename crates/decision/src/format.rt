@@ -8,7 +8,7 @@ use choice::group::Groups;
 use choice::group::grouping::group_blocks;
 use flash::Flash;
 use layout::plan::Plan;
-use survey::overview::look_over;
+use survey::table::pass::look_over;
 
 /// The code that a format asks for.
 pub const FORMAT_CODE: u8 = 170;

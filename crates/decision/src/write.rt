@@ -17,8 +17,8 @@ use layout::plan::{DataNumber, Plan};
 use layout::sizes::follower_count;
 use records::head::Head;
 use survey::newest::newest;
-use survey::overview::look_over;
 use survey::table::Counts;
+use survey::table::pass::look_over;
 use writing::record::NewRecord;
 
 // The serial after that of the newest record, 1 without a record; none where that has the last one.

@@ -9,7 +9,7 @@ use decision::fault::{UnitCause, UnitFault};
 use flash::Flash;
 use layout::plan::DataNumber;
 use records::pass::current;
-use values::{Copied, copy_record};
+use values::{Copied, copy_record_at};
 
 impl<F: Flash> Ready<F> {
     /// Copies the value of a data number to the front of a buffer, the rest of which stays, and answers its length.
@@ -28,7 +28,7 @@ impl<F: Flash> Ready<F> {
         let Some(head) = current(&self.flash, &self.plan, number)? else {
             return Err(UnitFault::Own(UnitCause::NoValue));
         };
-        match copy_record(&self.flash, &self.plan, number, head.block, out)? {
+        match copy_record_at(&self.flash, &self.plan, number, head.block, out)? {
             Copied::Whole => Ok(size),
             Copied::NoValue => Err(UnitFault::Own(UnitCause::NoValue)),
             Copied::TooShort => Err(UnitFault::Own(UnitCause::WrongLength)),

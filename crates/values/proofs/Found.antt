@@ -1,8 +1,9 @@
 -- What is copied of a record, and that the value of a number is the data of its current record.
-use Rattle.std.proofs.Common.{◌≡◌, ℕ, ◌<◌, ◌≤◌, true, false, leb, List, ◌++◌, length, drop, Some, None, sym, refl, ap, ◌∙◌, arith}
+use Rattle.std.proofs.Common.{◌≡◌, ℕ, ◌<◌, ◌≤◌, true, false, leb, List, ◌++◌, length, drop, Some, None, Ok, Err, Result, sym, refl, ap, ◌∙◌, arith}
 use Rattle.std.proofs.lemmas.Bool.Decides.{nat_tests}
 use Rattle.std.proofs.lemmas.Bool.{cond-true, cond-false}
-use Rattle.flash.specs.State.{Memory}
+use Rattle.flash.specs.declared.fault.FlashFault.{FlashFault}
+use Rattle.flash.specs.State.{State, Memory}
 use Rattle.layout.specs.Sizes.{Sizes, numbers, size}
 use Rattle.layout.specs.Sound.{candidate, sound}
 use Rattle.layout.specs.Records.{current, data_at, value}
@@ -10,7 +11,8 @@ use Rattle.records.specs.declared.head.Head.{Head}
 use Rattle.records.specs.Heads.{headed}
 use Rattle.records.proofs.Headed.{headed_none, head_is, head_sound}
 use Rattle.values.specs.declared.Copied.TheVariants.{Whole, NoValue, TooShort}
-use Rattle.values.specs.Copying.{Copying, recorded}
+use Rattle.values.specs.declared.Copied.{Copied}
+use Rattle.values.specs.Copying.{Copying, Copies, recorded, CopiesData}
 
 module _ (count : ℕ) (m : Memory) (p : Sizes) (n b : ℕ) where
   -- a sound record is one of a number of the plan
@@ -44,3 +46,9 @@ module _ (count : ℕ) (m : Memory) (p : Sizes) (n : ℕ) where
   head_valued h found =
       let e = head_is count m p n h found in
       rw e (sym (cond-true (sound count m p n h.block.0) (Some (data_at m p n h.block.0)) None (head_sound count m p n h found)))
+
+-- what is copied of a number is its value
+pub copies_value : (k : ℕ) (s : State) (p : Sizes) (n : ℕ) (d : List ℕ) (r : Result Copied FlashFault) (o : List ℕ)
+    → CopiesData k s (value s.count s.word p n) (size p n) d r o → Copies k s p n d r o
+copies_value k s p n d (Ok x) o h = h
+copies_value k s p n d (Err f) o h = h

@@ -59,7 +59,7 @@ fn copy_following<F: Flash>(
 }
 
 // Copies the data of the sound record of a number whose first block is `first`.
-fn copy_sound<F: Flash>(
+fn copy_record<F: Flash>(
     flash: &F,
     plan: &Plan,
     number: DataNumber,
@@ -77,14 +77,14 @@ fn copy_sound<F: Flash>(
 
 /// Copies the data of the record of a number whose first block this is to the front of a buffer, the rest of which stays.
 /// There is no value where the record is not sound.
-pub fn copy_record<F: Flash>(
+pub fn copy_record_at<F: Flash>(
     flash: &F,
     plan: &Plan,
     number: DataNumber,
     first: BlockNumber,
     out: &mut [u8],
 ) -> Result<Copied, FlashFault>
-    ensures { Copies F.model.kind (F.model.meaning flash.now) (recorded (F.model.meaning flash.now).count (F.model.meaning flash.now).word (sizes_of plan.now) number.0 first.0) (size_in (sizes_of plan.now) number.0) out.old result out.new }
+    ensures { CopiesData F.model.kind (F.model.meaning flash.now) (recorded (F.model.meaning flash.now).count (F.model.meaning flash.now).word (sizes_of plan.now) number.0 first.0) (size_in (sizes_of plan.now) number.0) out.old result out.new }
 {
     if !is_sound(flash, plan, number, first)? {
         return Ok(Copied::NoValue);
@@ -95,7 +95,7 @@ pub fn copy_record<F: Flash>(
     if out.len() < size as usize {
         return Ok(Copied::TooShort);
     }
-    copy_sound(flash, plan, number, first, size, out)?;
+    copy_record(flash, plan, number, first, size, out)?;
     Ok(Copied::Whole)
 }
 
@@ -106,10 +106,10 @@ pub fn copy_value<F: Flash>(
     number: DataNumber,
     out: &mut [u8],
 ) -> Result<Copied, FlashFault>
-    ensures { Copies F.model.kind (F.model.meaning flash.now) (value (F.model.meaning flash.now).count (F.model.meaning flash.now).word (sizes_of plan.now) number.0) (size_in (sizes_of plan.now) number.0) out.old result out.new }
+    ensures { Copies F.model.kind (F.model.meaning flash.now) (sizes_of plan.now) number.0 out.old result out.new }
 {
     let Some(head) = current(flash, plan, number)? else {
         return Ok(Copied::NoValue);
     };
-    copy_record(flash, plan, number, head.block, out)
+    copy_record_at(flash, plan, number, head.block, out)
 }

@@ -3,8 +3,8 @@ use Rattle.std.proofs.Common.{ℕ, List, None, Option, sym, refl, ◌∙◌, sub
 use Rattle.layout.specs.Sizes.{size}
 use Rattle.layout.specs.Plans.{sizes_of}
 use Rattle.values.specs.declared.Copied.TheVariants.{NoValue}
-use Rattle.values.specs.Copying.{Copying, Copies}
-use Rattle.values.proofs.Found.{none_valued, head_valued}
+use Rattle.values.specs.Copying.{Copying, CopiesData}
+use Rattle.values.proofs.Found.{none_valued, head_valued, copies_value}
 use Rattle.values.proofs.copy_value.Goals as goal
 
 pub returns-in_default : goal.returns-in_default
@@ -25,5 +25,6 @@ returns g c =
     let p = sizes_of c.args.plan.now in
     let n = c.args.number.0 in
     let found = c.in_ok-head.ensures in
-    subst (λ (v : Option (List ℕ)). Copies m.kind s v (size p n) c.args.out.now c.copy_record.result c.copy_record.new.out)
-    (sym (head_valued s.count s.word p n c.in-Some.head (sym c.in-Some.is ∙ found.1))) c.copy_record.ensures
+    copies_value m.kind s p n c.args.out.now c.copy_record_at.result c.copy_record_at.new.out
+    (subst (λ (v : Option (List ℕ)). CopiesData m.kind s v (size p n) c.args.out.now c.copy_record_at.result c.copy_record_at.new.out)
+    (sym (head_valued s.count s.word p n c.in-Some.head (sym c.in-Some.is ∙ found.1))) c.copy_record_at.ensures)

@@ -27,8 +27,8 @@ returns-in-Whole g c =
     let head = c.in-Some-2.head in
     reads_whole p n c.args.out.now c.args.bar.now m.kind s
     known.0 (omega (arith, known.1, c.if-out-size.false)) c.if-bar.false found.0 head (sym c.in-Some-2.is ∙ found.1)
-    c.in-Some.size c.copy_record.new.out known.1
-    (subst (λ (x : Copied). Copying (recorded s.count s.word p n head.block.0) (size p n) c.args.out.now x c.copy_record.new.out) c.in-Whole.is c.in_ok-copy_record.ensures.1)
+    c.in-Some.size c.copy_record_at.new.out known.1
+    (subst (λ (x : Copied). Copying (recorded s.count s.word p n head.block.0) (size p n) c.args.out.now x c.copy_record_at.new.out) c.in-Whole.is c.in_ok-copy_record_at.ensures.1)
 
 pub returns-in-NoValue : goal.returns-in-NoValue
 returns-in-NoValue g c =
@@ -41,5 +41,5 @@ returns-in-NoValue g c =
     let head = c.in-Some-2.head in
     absurd (not_nothing p n c.args.out.now c.args.bar.now m.kind s
     known.0 (omega (arith, known.1, c.if-out-size.false)) c.if-bar.false found.0 head (sym c.in-Some-2.is ∙ found.1)
-    c.copy_record.new.out
-    (subst (λ (x : Copied). Copying (recorded s.count s.word p n head.block.0) (size p n) c.args.out.now x c.copy_record.new.out) c.in-NoValue.is c.in_ok-copy_record.ensures.1))
+    c.copy_record_at.new.out
+    (subst (λ (x : Copied). Copying (recorded s.count s.word p n head.block.0) (size p n) c.args.out.now x c.copy_record_at.new.out) c.in-NoValue.is c.in_ok-copy_record_at.ensures.1))

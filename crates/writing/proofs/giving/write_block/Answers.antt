@@ -13,8 +13,8 @@ returns-in_default-get g c =
     subst (λ (cs : List Command). Tried g.F.Flash.model cs c.args.flash.now (Ok tt) c.args.flash.now)
     (sym (none_beyond x.size x.number.0 x.serial c.args.data.now l c.args.i (block_beyond l c.args.i c.in_default-get.ensures))) (refl, refl)
 
-pub overflow-add-i : goal.overflow-add-i
-overflow-add-i g c =
+pub overflow_add-i : goal.overflow_add-i
+overflow_add-i g c =
     let x = c.args.record.now.blocks in
     let h = block_there (listed x) c.args.i _ c.in-Some-get.ensures in
     omega (arith, length-take x.len x.blocks)

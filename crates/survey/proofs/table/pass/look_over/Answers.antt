@@ -2,7 +2,7 @@
 use Rattle.std.proofs.Common.{◌≡◌, ◌∙◌, arith}
 use Rattle.layout.specs.Plans.{sizes_of}
 use Rattle.survey.proofs.Entered.{surveyed_none, surveyed_more, surveyed_all}
-use Rattle.survey.proofs.overview.look_over.Goals as goal
+use Rattle.survey.proofs.table.pass.look_over.Goals as goal
 
 pub loop-b-init : goal.loop-b-init
 loop-b-init g c =

@@ -7,7 +7,7 @@ ghost use Rattle.layout.specs.Sound.{leads, sound};
 ghost use Rattle.layout.specs.Records.{data_at, data_from, value};
 ghost use Rattle.layout.specs.Plans.{sizes_of};
 ghost use Rattle.layout.specs.Reads.{words_of};
-ghost use Rattle.values.specs.Copying.{recorded, Copies};
+ghost use Rattle.values.specs.Copying.{recorded, Copies, CopiesData};
 
 use flash::fault::FlashFault;
 use flash::{BlockNumber, Flash};

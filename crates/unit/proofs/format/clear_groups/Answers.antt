@@ -12,7 +12,7 @@ returns-in_err-clear_group g c =
     let m = g.F.Flash.model in
     let x = c.loop-group.flash in
     let f = c.in_err-clear_group.field-0.0 in
-    let cut = next_cut m c.args.groups.now group_order c.loop-group.group_index (m.meaning c.args.flash.now).count HalfErased c.loop-group-test.true
+    let cut = next_cut m c.args.groups.now group_order c.loop-group.group-index (m.meaning c.args.flash.now).count HalfErased c.loop-group-test.true
     (m.meaning x).count c.loop-group.invariant.1 x c.clear_group.new.flash f c.in_err-clear_group.ensures in
     let e = err_from_is_err_and c.from_residual.result c.from_residual.ensures.1 in
     rw (e.1, e.2) (c.loop-group.invariant.2 (Err f) c.clear_group.new.flash cut)
@@ -23,7 +23,7 @@ loop-group-preserved g c =
     let x = c.loop-group.flash in
     let z = c.clear_group.new.flash in
     let t = c.args.groups.now in
-    let i = c.loop-group.group_index in
+    let i = c.loop-group.group-index in
     let done = c.in_ok-clear_group.ensures in
     let bs = of_group t (get_or group_order i HalfErased) (m.meaning x).count in (
       stays_on m bs x z done ∙ c.loop-group.invariant.0,
@@ -36,4 +36,4 @@ pub returns : goal.returns
 returns g c =
     let m = g.F.Flash.model in
     c.loop-group.invariant.2 (Ok tt) c.loop-group.flash
-    (groups_end m c.args.groups.now group_order c.loop-group.group_index (m.meaning c.args.flash.now).count c.loop-group.flash c.loop-group-test.false)
+    (groups_end m c.args.groups.now group_order c.loop-group.group-index (m.meaning c.args.flash.now).count c.loop-group.flash c.loop-group-test.false)

@@ -52,6 +52,6 @@ pub(crate) fn print_all<F: Flash>(rt: &HostRuntime, flash: &F, plan: &Plan) -> a
             print_counts(rt, survey.counts())?;
             Ok(())
         }
-        Err(fault) => Err(refused(rt, fault.report())),
+        Err(fault) => Err(refused(fault.report())),
     }
 }

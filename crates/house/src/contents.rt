@@ -31,7 +31,7 @@ fn print_value<F: Flash>(
         Ok(Copied::Whole) => print_text(rt, number, &buffer[..size as usize])?,
         Ok(Copied::NoValue) => println!(rt; "number {n}: no value")?,
         Ok(Copied::TooShort) => println!(rt; "number {n}: larger than {LARGEST} bytes")?,
-        Err(fault) => return Err(refused(rt, fault.report())),
+        Err(fault) => return Err(refused(fault.report())),
     }
     Ok(())
 }

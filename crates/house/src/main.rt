@@ -1,5 +1,6 @@
 //! Reads an image of a small house and shows the value of each data number and the states of the blocks.
 //! Argument: the path of the image, `house.img` without one.
+use anyhow::anyhow;
 use flash::fault::Report;
 use layout::plan::Plan;
 use simulated::Image;
@@ -12,14 +13,11 @@ mod contents;
 const SIZES: [u16; 4] = [5, 60, 3, 1];
 
 // What an error says of a refusal.
-fn refused(rt: &HostRuntime, seen: Report) -> anyhow::Error {
+fn refused(seen: Report) -> anyhow::Error {
     let number = seen.number;
     let layer = seen.layer.number();
     let kind = seen.kind;
-    match format!(in rt.alloc(); "refused with {number} (layer {layer}, kind {kind})") {
-        Ok(text) => text.into(),
-        Err(error) => error.into(),
-    }
+    anyhow!("refused with {number} (layer {layer}, kind {kind})")
 }
 
 // The bytes of the file that the argument names, or of `house.img`.
@@ -36,14 +34,14 @@ fn read_file(rt: &HostRuntime) -> anyhow::Result<Vec<u8>> {
 fn open(rt: &HostRuntime, memory: Vec<u8>) -> anyhow::Result<Image> {
     match Image::check(memory.len()) {
         Ok(()) => Ok(Image::new(memory)),
-        Err(fault) => Err(refused(rt, fault.report())),
+        Err(fault) => Err(refused(fault.report())),
     }
 }
 
 fn make_plan(rt: &HostRuntime) -> anyhow::Result<Plan> {
     match Plan::new(&SIZES) {
         Ok(plan) => Ok(plan),
-        Err(fault) => Err(refused(rt, fault.report())),
+        Err(fault) => Err(refused(fault.report())),
     }
 }
 

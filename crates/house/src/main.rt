@@ -31,14 +31,14 @@ fn read_file(rt: &HostRuntime) -> anyhow::Result<Vec<u8>> {
 }
 
 // The flash in these bytes, unless they are no image.
-fn open(rt: &HostRuntime, memory: Vec<u8>) -> anyhow::Result<Image> {
+fn open(memory: Vec<u8>) -> anyhow::Result<Image> {
     match Image::check(memory.len()) {
         Ok(()) => Ok(Image::new(memory)),
         Err(fault) => Err(refused(fault.report())),
     }
 }
 
-fn make_plan(rt: &HostRuntime) -> anyhow::Result<Plan> {
+fn make_plan() -> anyhow::Result<Plan> {
     match Plan::new(&SIZES) {
         Ok(plan) => Ok(plan),
         Err(fault) => Err(refused(fault.report())),
@@ -46,8 +46,8 @@ fn make_plan(rt: &HostRuntime) -> anyhow::Result<Plan> {
 }
 
 fn run(rt: &HostRuntime) -> anyhow::Result<()> {
-    let plan = make_plan(rt)?;
-    let image = open(rt, read_file(rt)?)?;
+    let plan = make_plan()?;
+    let image = open(read_file(rt)?)?;
     contents::print_all(rt, &image, &plan)?;
     blocks::print_all(rt, &image, &plan)?;
     Ok(())

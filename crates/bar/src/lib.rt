@@ -1,4 +1,6 @@
 //! The bar, which comes with each call and forbids some, and a lifting, which clears it for its holder. No heap.
+#![tactic(auto)]
+
 ghost use Rattle.std.specs.Prelude.{◌≡◌};
 ghost use Rattle.bar.specs.Marks.{open_bar};
 

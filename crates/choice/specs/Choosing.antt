@@ -3,7 +3,7 @@
 --     erasable count m p         the first spent or half-erased block in the round: the one that an erase clears
 --     group_of s first           the group of a block with state s, which is the first block of a current record or not
 --     format_order count m p     all blocks, in the order in which a format clears them
-use Rattle.std.specs.Prelude.{ℕ, Bool, true, false, cond, List, [], ◌∷◌, ◌++◌, take, Some, None, filter, Option, ◌==◌}
+use Rattle.std.specs.Prelude.{ℕ, Bool, true, false, List, [], ◌∷◌, ◌++◌, take, Some, None, filter, Option, ◌==◌}
 use Rattle.std.specs.List.{range_with_len}
 use Rattle.flash.specs.State.{Memory}
 use Rattle.layout.specs.declared.state.BlockState.{BlockState}

@@ -1,4 +1,6 @@
 //! Clearing and mending a block: how a block is made free, so that a loss of power on the way can be seen from its erase marks.
+#![tactic(auto)]
+
 ghost use Rattle.std.specs.Prelude.{◌≡◌, OnOk};
 ghost use Rattle.flash.specs.Commands.{reached};
 ghost use Rattle.flash.specs.Lists.{Told};

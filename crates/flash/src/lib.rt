@@ -1,5 +1,7 @@
 //! A flash: blocks of 16 words that are programmed one by one and erased block by block, and that may lose power inside a command.
 //! The trait `Flash` has the flash rules as its contracts; specs/Rules.antt states them.
+#![tactic(auto)]
+
 ghost use Rattle.std.specs.Prelude.{◌≡◌};
 ghost use Rattle.flash.specs.State.{Shaped};
 ghost use Rattle.flash.specs.Commands.{Command, looked};

@@ -3,7 +3,7 @@
 --     four m i           the number of the four bytes of m from i on, low byte first
 --     put_four m i v     those four bytes set to v
 --     put_bit m i k on   bit k of byte i set to 1 or 0
-use Rattle.std.specs.Prelude.{ℕ, ◌+◌, ◌-◌, ◌*◌, ◌/◌, ◌%◌, ◌^◌, Bool, true, false, List, set, ◌==◌, bit_and, bit_or, slice_index, slice_set}
+use Rattle.std.specs.Prelude.{ℕ, ◌+◌, ◌-◌, ◌*◌, ◌/◌, ◌%◌, ◌^◌, Bool, true, false, List, ◌==◌, bit_and, bit_or, slice_index, slice_set}
 
 -- bit 0 is the lowest
 abbrev pub bit : ℕ → ℕ → Bool

@@ -1,6 +1,6 @@
 -- Kind 2, cells: five bytes a word, the first FF for blank and anything else for written, then the four bytes.
 --     cells              the form of cells
-use Rattle.std.specs.Prelude.{ℕ, ◌+◌, ◌*◌, cond, ◌&&◌, List, length, set, Some, None, Option, ◌==◌, nat_lt, slice_index, slice_set}
+use Rattle.std.specs.Prelude.{ℕ, ◌+◌, ◌*◌, cond, ◌&&◌, List, length, Some, None, Option, ◌==◌, nat_lt, slice_index, slice_set}
 use Rattle.formats.specs.Bytes.{four, put_four}
 use Rattle.formats.specs.Forms.{Form, blocks_of}
 

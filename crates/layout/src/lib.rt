@@ -1,4 +1,6 @@
 //! The layout of records in a flash: plans, the fields of a block, the code, and the check of a block. No heap.
+#![tactic(auto)]
+
 pub mod block;
 pub mod block_type;
 pub mod check;

@@ -1,4 +1,6 @@
 //! Kind 4, a pair: the blocks of one flash followed by those of another, as one flash.
+#![tactic(auto)]
+
 ghost use Rattle.std.specs.Prelude.{◌≡◌, Ok, Err};
 ghost use Rattle.flash.specs.Faults.{fault};
 ghost use Rattle.flash.specs.State.{Shaped};

@@ -1,4 +1,6 @@
 //! Kind 3, a part: some blocks of any flash, one after the other, as a flash of their own.
+#![tactic(auto)]
+
 ghost use Rattle.std.specs.Prelude.{◌≡◌, ◌+◌, Ok, Err};
 ghost use Rattle.flash.specs.Faults.{fault};
 ghost use Rattle.flash.specs.State.{Shaped};

@@ -1,5 +1,7 @@
 //! Rehearses a loss of power on simulated flashes and shows what it left.
 //! Arguments: how many commands are done before power goes in the next one, and the manner in which it goes.
+#![tactic(auto)]
+
 use anyhow::anyhow;
 use flash::fault::FlashFault;
 use flash::{BlockNumber, Flash, Rehearsal};

@@ -1,5 +1,7 @@
 //! Two simulated flashes: kind 1, an image, and kind 2, cells.
 //! They own the bytes of their memory, hand them back, and can rehearse a loss of power.
+#![tactic(auto)]
+
 ghost use Rattle.std.specs.Prelude.{◌≡◌};
 ghost use Rattle.simulated.specs.Rehearsed.{checked, fresh};
 ghost use Rattle.simulated.specs.Flashes.{held};

@@ -57,7 +57,7 @@ impl Counts {
 }
 
 impl Survey {
-    pub(crate) fn none() -> Survey
+    fn none() -> Survey
         ensures { (length result.entries ≡ 256) × ((b : ℕ) → slice_index_or result.entries b (entry_with None) ≡ entry_with None) }
     {
         Survey {
@@ -76,7 +76,7 @@ impl Survey {
     }
 
     // Marks one entry; the 255 others stay.
-    pub(crate) fn mark(&mut self, block: BlockNumber, state: Option<BlockState>)
+    fn mark(&mut self, block: BlockNumber, state: Option<BlockState>)
         requires { block.0 < 256 }
         ensures { self.new.entries ≡ slice_set self.old.entries block.0 (entry_with state) }
     {

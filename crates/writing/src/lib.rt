@@ -1,4 +1,6 @@
 //! The words of a record: which commands write it, how many they are, that they leave a sound record, and giving them to a flash.
+#![tactic(auto)]
+
 ghost use Rattle.std.specs.Prelude.{◌≡◌};
 ghost use Rattle.writing.specs.Writing.{commands_of};
 ghost use Rattle.writing.specs.Law.{Counts, SoundWhenDone};

@@ -1,5 +1,5 @@
 -- The value is the data of the current record.
-use Rattle.std.proofs.Common.{ℕ, List, None, Option, sym, refl, ◌∙◌, subst}
+use Rattle.std.proofs.Common.{ℕ, List, Option, sym, refl, ◌∙◌, subst}
 use Rattle.layout.specs.Sizes.{size}
 use Rattle.layout.specs.Plans.{sizes_of}
 use Rattle.values.specs.declared.Copied.TheVariants.{NoValue}

@@ -1,8 +1,7 @@
 -- What an erase decides, from the block that was found.
-use Rattle.std.proofs.Common.{◌≡◌, ℕ, true, false, Some, None, Ok, Err, Option, sym, refl, ap, ◌∙◌, arith}
+use Rattle.std.proofs.Common.{◌≡◌, ℕ, true, false, Some, None, Ok, Option, sym, refl, ap, ◌∙◌, arith}
 use Rattle.flash.specs.declared.BlockNumber.{BlockNumber}
 use Rattle.flash.specs.State.{State}
-use Rattle.flash.specs.Lists.{Taken}
 use Rattle.clearing.specs.Clearing.{mark, clearing}
 use Rattle.clearing.proofs.Freed.{clearing_taken}
 use Rattle.layout.specs.Sizes.{Sizes, numbers}
@@ -20,7 +19,7 @@ use Rattle.choice.proofs.Tabling.{erasable_tabled, erasable_below}
 use Rattle.bar.specs.declared.Bar.{Bar}
 use Rattle.decision.specs.declared.fault.UnitCause.TheVariants.{NothingToErase}
 use Rattle.decision.specs.declared.fault.UnitFault.TheVariants.{Own}
-use Rattle.decision.specs.Decisions.{refuse, perform, Decided}
+use Rattle.decision.specs.Decisions.{refuse, Decided}
 use Rattle.decision.specs.Calls.{clear_found, to_erase}
 
 -- the number that the code has is the one that was found

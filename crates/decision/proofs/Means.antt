@@ -1,5 +1,5 @@
 -- What comes of a decision over the values of a flash comes of it over the meanings.
-use Rattle.std.proofs.Common.{◌≡◌, ℕ, zero, suc, Ok, Err, Option, Result, ap, inl, inr}
+use Rattle.std.proofs.Common.{ℕ, zero, suc, Ok, Err, Option, Result, ap, inl, inr}
 use Rattle.flash.specs.Rules.{Model}
 use Rattle.flash.proofs.Lists.{through_means, cut_means}
 use Rattle.decision.specs.declared.fault.UnitFault.{UnitFault}

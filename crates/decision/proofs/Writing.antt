@@ -1,8 +1,7 @@
 -- What a write decides, one refusal after another.
-use Rattle.std.proofs.Common.{◌≡◌, ℕ, suc, ◌+◌, ◌^◌, ◌<◌, ◌≤◌, min, Bool, true, false, not, eqb, ltb, List, [], ◌∷◌, length, take, Some, None, Ok, Err, filter, Option, Result, sym, refl, ap, ◌∙◌, subst, inl, inr, add-one, arith}
+use Rattle.std.proofs.Common.{◌≡◌, ℕ, suc, ◌+◌, ◌^◌, ◌<◌, ◌≤◌, min, true, false, eqb, ltb, List, [], ◌∷◌, length, take, Some, None, Ok, Err, filter, Option, sym, refl, ap, ◌∙◌, subst, inl, inr, add-one, arith}
 use Rattle.std.specs.List.{AllByRecursion as All}
-use Rattle.std.proofs.lemmas.Bool.{lt-ltb, le-ltb, eq-eqb, ne_eqb, cases_Bool, cases_eq, ltb-true, ltb-false, eqb-true, eqb-false, cond-true, cond-false}
-use Rattle.std.proofs.lemmas.Bool.Decides.{nat_tests}
+use Rattle.std.proofs.lemmas.Bool.{lt-ltb, eq-eqb, cases_Bool, ltb-false, eqb-false, cond-true, cond-false}
 use Rattle.flash.specs.State.{State, Shaped, Words, Memory}
 use Rattle.flash.specs.Lists.{applied_all, Taken}
 use Rattle.layout.specs.Sizes.{Sizes, Planned, numbers, size, followers, blocks_of}
@@ -27,12 +26,11 @@ use Rattle.choice.specs.Tables.{suited, round_of, round_after}
 use Rattle.choice.proofs.Tabling.{free_blocks_tabled}
 use Rattle.choice.proofs.Suiting.{free_blocks_suit, free_blocks_length}
 use Rattle.bar.specs.declared.Bar.{Bar}
-use Rattle.decision.specs.declared.fault.UnitCause.TheVariants.{NoNumber, WrongLength, Barred, EraseFirst, Full, SerialsSpent}
+use Rattle.decision.specs.declared.fault.UnitCause.TheVariants.{EraseFirst, Full, SerialsSpent}
 use Rattle.decision.specs.declared.fault.UnitFault.{UnitFault}
 use Rattle.decision.specs.declared.fault.UnitFault.TheVariants.{Own}
-use Rattle.decision.specs.Faults.{no_power}
 use Rattle.decision.specs.Decisions.{Decision, refuse, perform, unless}
-use Rattle.decision.specs.Calls.{serial_at, highest, write_commands, to_be_had, to_write}
+use Rattle.decision.specs.Calls.{serial_at, highest, write_commands, to_write}
 use Rattle.decision.specs.Writes.{serial_after, roomed, LeadsToRecord}
 
 -- the serial after the newest record's is one above the highest

@@ -8,7 +8,7 @@
 --     to_erase p bar         an erase of one block
 --     to_format p c bar      a format with code c
 --     Formats p c bar k s r  r stands for what a format decides
-use Rattle.std.specs.Prelude.{◌≡◌, ℕ, zero, suc, ◌+◌, ◌<◌, Bool, true, cond, not, ◌⊎◌, List, [], ◌∷◌, ◌++◌, length, drop, Some, None, Ok, Err, Option, Result, ◌==◌, nat_lt}
+use Rattle.std.specs.Prelude.{◌≡◌, ℕ, zero, suc, ◌+◌, ◌<◌, true, cond, not, ◌⊎◌, List, [], ◌∷◌, ◌++◌, length, drop, Some, None, Ok, Err, Option, Result, ◌==◌, nat_lt}
 use Rattle.flash.specs.declared.BlockNumber.{BlockNumber}
 use Rattle.flash.specs.State.{State, Memory}
 use Rattle.flash.specs.Commands.{Command}

@@ -1,4 +1,6 @@
 //! Worked examples of the layout: sizes, commands, the code and the states of blocks, as numbers to compare with.
+#![tactic(auto)]
+
 ghost use Rattle.std.specs.Prelude.{◌≡◌, true};
 ghost use Rattle.examples.specs.Worked.{Worked};
 

@@ -1,5 +1,7 @@
 //! Reads an image of a small house and shows the value of each data number and the states of the blocks.
 //! Argument: the path of the image, `house.img` without one.
+#![tactic(auto)]
+
 use anyhow::anyhow;
 use flash::fault::Report;
 use layout::plan::Plan;

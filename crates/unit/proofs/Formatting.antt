@@ -1,6 +1,6 @@
 -- Clearing the blocks of a group one by one, and one group after another.
-use Rattle.std.proofs.Common.{◌≡◌, ℕ, ◌+◌, ◌-◌, ◌<◌, ◌≤◌, Bool, true, false, cond, List, [], ◌∷◌, ◌++◌, length, get_or, drop, Some, Ok, Err, filter, Option, Result, sym, refl, ap, ◌∙◌, subst, arith}
-use Rattle.std.specs.List.{range_with_len, AllByRecursion as All}
+use Rattle.std.proofs.Common.{◌≡◌, ℕ, ◌+◌, ◌-◌, ◌<◌, ◌≤◌, Bool, true, false, cond, List, [], ◌∷◌, ◌++◌, length, get_or, drop, Some, filter, Option, Result, sym, refl, ap, ◌∙◌, subst, arith}
+use Rattle.std.specs.List.{range_with_len}
 use Rattle.std.proofs.ByRecursion.{All-weaker}
 use Rattle.std.proofs.lemmas.List.{at_drop_more, at_drop_all}
 use Rattle.flash.specs.declared.fault.FlashFault.{FlashFault}
@@ -10,7 +10,7 @@ use Rattle.flash.specs.Lists.{Through, Cut, Given}
 use Rattle.flash.proofs.Lists.{through_means}
 use Rattle.layout.specs.Sizes.{Sizes}
 use Rattle.layout.specs.States.{state}
-use Rattle.layout.proofs.Loops.{left_suc, left_none}
+use Rattle.layout.proofs.Loops.{left_suc}
 use Rattle.choice.specs.declared.group.Group.{Group}
 use Rattle.choice.specs.declared.group.Groups.{Groups}
 use Rattle.choice.specs.Choosing.{same_group, group_of, is_first, in_group, in_groups, group_order, format_order}

@@ -1,7 +1,7 @@
 -- What a read answers that nothing refuses before it looks for the value.
-use Rattle.std.proofs.Common.{◌≡◌, ℕ, ◌<◌, ◌≤◌, Bool, true, false, not, ltb, leb, List, ◌++◌, length, drop, Some, None, Ok, Err, MatchBool, Option, sym, refl, ap, ◌∙◌, subst, arith}
+use Rattle.std.proofs.Common.{◌≡◌, ℕ, ◌<◌, ◌≤◌, Bool, true, false, ltb, leb, List, ◌++◌, length, drop, Some, None, Ok, Err, MatchBool, Option, sym, refl, ap, ◌∙◌, subst, arith}
 use Rattle.std.proofs.lemmas.Bool.{lt-ltb, le-ltb, le-leb, cond-true}
-use Rattle.flash.specs.State.{State, Memory}
+use Rattle.flash.specs.State.{State}
 use Rattle.layout.specs.Sizes.{Sizes, numbers, size}
 use Rattle.layout.specs.Sound.{sound}
 use Rattle.layout.specs.Records.{current, data_at, value}

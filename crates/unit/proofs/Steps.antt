@@ -1,10 +1,10 @@
 -- The steps that an ending makes, one step on.
-use Rattle.std.proofs.Common.{◌≡◌, ℕ, suc, ◌+◌, ◌-◌, ◌<◌, ◌≤◌, true, cond, ltb, Some, None, Ok, Err, Option, Result, sym, refl, ap, ◌∙◌, subst, inl, inr, add-one}
+use Rattle.std.proofs.Common.{◌≡◌, ℕ, suc, ◌+◌, ◌-◌, ◌<◌, ◌≤◌, true, ltb, Some, None, Ok, Err, Option, Result, sym, refl, ◌∙◌, subst, inl, inr, add-one}
 use Rattle.std.proofs.lemmas.Bool.{lt-ltb}
 use Rattle.flash.specs.State.{State}
 use Rattle.layout.proofs.Loops.{left_suc, left_none}
 use Rattle.decision.specs.declared.fault.UnitFault.{UnitFault}
-use Rattle.decision.specs.Calls.{accepted, past, Finishes}
+use Rattle.decision.specs.Calls.{past, Finishes}
 
 module _ {S : Type 0} (Step : ℕ → S → Result (Unit {0}) UnitFault → S → Type 0) (n j : ℕ) where
   pub finishes_none : (x : S) → n ≤ j → Finishes Step (n - j) j x None j x

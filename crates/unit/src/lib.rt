@@ -1,5 +1,7 @@
 //! A unit: numbered records in a flash that it holds, shut, started or ready. No heap.
 //! What each call decides and what may come of it is defined in crate decision, specs/Calls.antt and specs/Decisions.antt.
+#![tactic(auto)]
+
 use layout::plan::Plan;
 
 pub mod close;

@@ -1,5 +1,5 @@
 -- The groups are those of the blocks.
-use Rattle.std.proofs.Common.{◌≡◌, true, eqb, refl, rules}
+use Rattle.std.proofs.Common.{rules}
 use Rattle.layout.specs.Plans.{sizes_of}
 use Rattle.choice.proofs.Groupings.{groups_tabled}
 use Rattle.decision.proofs.format.decide_format.Goals as goal

@@ -1,6 +1,6 @@
 -- The number has no value, or its value was copied.
-use Rattle.std.proofs.Common.{◌≡◌, ◌<◌, ◌≤◌, length, sym, ◌∙◌, subst, arith}
-use Rattle.layout.specs.Sizes.{numbers, size}
+use Rattle.std.proofs.Common.{sym, ◌∙◌, subst, arith}
+use Rattle.layout.specs.Sizes.{size}
 use Rattle.layout.specs.Plans.{sizes_of}
 use Rattle.values.specs.declared.Copied.{Copied}
 use Rattle.values.specs.Copying.{Copying, recorded}

@@ -1,7 +1,7 @@
 -- The record's commands were done, or power went in one of them.
-use Rattle.std.proofs.Common.{◌≡◌, Ok, Err, sym, refl, ap, ◌∙◌, subst}
+use Rattle.std.proofs.Common.{Ok, Err, sym, refl, subst}
 use Rattle.std.proofs.lemmas.Result.{err_from_is_err_and}
-use Rattle.flash.specs.State.{State, Memory}
+use Rattle.flash.specs.State.{State}
 use Rattle.flash.specs.Lists.{Through, Cut}
 use Rattle.flash.proofs.Lists.{through_means}
 use Rattle.layout.specs.Plans.{sizes_of}

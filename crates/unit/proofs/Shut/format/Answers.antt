@@ -1,5 +1,5 @@
 -- The blocks were cleared in their order, or power went on the way.
-use Rattle.std.proofs.Common.{◌≡◌, ℕ, List, Ok, Err, refl, subst}
+use Rattle.std.proofs.Common.{ℕ, List, Ok, Err, refl, subst}
 use Rattle.std.proofs.lemmas.Result.{err_from_is_err_and}
 use Rattle.flash.specs.Lists.{Through, Cut}
 use Rattle.layout.specs.Plans.{sizes_of}

@@ -1,7 +1,7 @@
 -- A step more, a step refused, and no step left.
-use Rattle.std.proofs.Common.{◌≡◌, ℕ, ◌+◌, ◌-◌, ◌<◌, Some, None, sym, ap, ◌∙◌, subst, arith, rules}
+use Rattle.std.proofs.Common.{◌<◌, ◌∙◌, arith}
 use Rattle.decision.specs.Decisions.{Performs}
-use Rattle.decision.specs.Calls.{to_step, Finishes}
+use Rattle.decision.specs.Calls.{to_step}
 use Rattle.decision.proofs.Counted.{performs_count}
 use Rattle.unit.proofs.Steps.{finishes_refused, finishes_more, past_ok, past_err}
 use Rattle.unit.proofs.Started.finish_steps.Goals as goal

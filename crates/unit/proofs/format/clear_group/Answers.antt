@@ -1,5 +1,5 @@
 -- One block on, and a block in whose clearing power went.
-use Rattle.std.proofs.Common.{◌≡◌, ℕ, ◌-◌, cond, [], ◌∷◌, Err, filter, ap, ◌∙◌, subst}
+use Rattle.std.proofs.Common.{ℕ, ◌-◌, cond, [], ◌∷◌, Err, filter, ◌∙◌, subst}
 use Rattle.std.proofs.lemmas.Result.{err_from_is_err_and}
 use Rattle.std.specs.List.{range_with_len}
 use Rattle.flash.specs.Lists.{Cut}

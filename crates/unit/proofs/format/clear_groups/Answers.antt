@@ -1,5 +1,5 @@
 -- One group on, and a group in whose clearing power went.
-use Rattle.std.proofs.Common.{◌≡◌, get_or, drop, Ok, Err, ◌∙◌}
+use Rattle.std.proofs.Common.{get_or, Ok, Err, ◌∙◌}
 use Rattle.std.proofs.lemmas.Result.{err_from_is_err_and}
 use Rattle.choice.specs.declared.group.Group.TheVariants.{HalfErased}
 use Rattle.choice.specs.Choosing.{group_order}

@@ -1,4 +1,6 @@
 //! A flash that counts the looks at it, and how many looks a survey makes.
+#![tactic(auto)]
+
 ghost use Rattle.std.specs.Prelude.{◌≡◌};
 ghost use Rattle.looks.specs.Counting.{counting};
 

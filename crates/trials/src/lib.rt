@@ -139,6 +139,29 @@ mod tests {
         Ok(Pair::new(part, Cells::new(vec![in rt.alloc(); 0x55u8; 240]?)))
     }
 
+    // The bytes that the board's two chips are left with.
+    fn bytes_of_both_chips(rt: &impl Abort, image: &[u8], cells: &[u8]) {
+        assert!(rt; image.len() == 264 && cells.len() == 240);
+        assert_eq!(rt;
+            [
+                image[164], image[165], image[166], image[167], image[188], image[192],
+            ],
+            [1, 2, 3, 4, 0xAA, 0x55]
+        );
+        assert_eq!(rt;
+            [image[258], image[259], image[260], image[261], image[262]],
+            [0x55, 0x55, 0, 0x82, 0x55]
+        );
+        assert_eq!(rt;
+            [cells[45], cells[46], cells[47], cells[48], cells[49]],
+            [0, 1, 2, 3, 4]
+        );
+        assert_eq!(rt;
+            [cells[74], cells[75], cells[79], cells[80]],
+            [0xFF, 0, 0xAA, 0x55]
+        );
+    }
+
     #[test]
     fn board_goes_to_the_right_chip(rt: HostRuntime) -> Result<(), Fail> {
         let mut flash = board(&rt)?;
@@ -167,25 +190,7 @@ mod tests {
         let (part, cells) = flash.into_flashes();
         let image = part.into_below().into_memory();
         let cells = cells.into_memory();
-        assert!(rt; image.len() == 264 && cells.len() == 240);
-        assert_eq!(rt;
-            [
-                image[164], image[165], image[166], image[167], image[188], image[192],
-            ],
-            [1, 2, 3, 4, 0xAA, 0x55]
-        );
-        assert_eq!(rt;
-            [image[258], image[259], image[260], image[261], image[262]],
-            [0x55, 0x55, 0, 0x82, 0x55]
-        );
-        assert_eq!(rt;
-            [cells[45], cells[46], cells[47], cells[48], cells[49]],
-            [0, 1, 2, 3, 4]
-        );
-        assert_eq!(rt;
-            [cells[74], cells[75], cells[79], cells[80]],
-            [0xFF, 0, 0xAA, 0x55]
-        );
+        bytes_of_both_chips(&rt, &image, &cells);
         Ok(())
     }
 

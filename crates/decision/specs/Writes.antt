@@ -1,7 +1,7 @@
 -- What a write decides, from what a look over the flash finds.
 --     serial_after o         the serial after that of the newest record
 --     roomed c need          whether there are so many free blocks, by the counts of all states
---     LeadsToRecord ..     what the commands of a write leave once they are done
+--     LeadsToRecord ..       what the commands of a write leave once they are done
 use Rattle.std.specs.Prelude.{◌≡◌, ℕ, ◌+◌, cond, List, ◌∷◌, Some, None, Ok, Err, Option, Result, ◌==◌, nat_lt}
 use Rattle.flash.specs.State.{Memory}
 use Rattle.layout.specs.Sizes.{Sizes, size, blocks_of}

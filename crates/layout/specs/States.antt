@@ -1,6 +1,6 @@
 -- The states of blocks. Words are those of a flash of so many blocks, under a plan.
 --     in_use count m p b       block b belongs to a current record
---     is_half_erased m            an erase of the block with words m was begun or never came to its end
+--     is_half_erased m         an erase of the block with words m was begun or never came to its end
 --     clean m                  words 0 to 14 are blank
 --     state count m p b        the state of block b
 --     counted count m p s      how many blocks have state s

@@ -1,5 +1,5 @@
 //! The blocks of current records, found by walks along their chains.
-ghost use Rattle.std.specs.Prelude.{◌≡◌, ℕ, ◌<◌, true, false, length, set, slice_index_or, slice_set};
+ghost use Rattle.std.specs.Prelude.{◌≡◌, ℕ, ◌<◌, true, false, length, slice_index_or, slice_set};
 ghost use Rattle.layout.specs.Sizes.{followers, numbers};
 ghost use Rattle.layout.specs.Records.{chained, current as current_of};
 ghost use Rattle.layout.specs.States.{holds, within};

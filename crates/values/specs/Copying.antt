@@ -1,7 +1,7 @@
 -- The value of a number, copied to the front of a buffer.
---     Copying v z d x o      x and o are the answer and the buffer after copying the value v, of z bytes, into the buffer d
---     Copies k s p n d r o   the same of data number n on a flash, or the flash's own fault where power is off
---     recorded count m p n b the data of a sound record, by its first block
+--     Copying v z d x o         x and o are the answer and the buffer after copying the value v, of z bytes, into the buffer d
+--     Copies k s p n d r o      the same of data number n on a flash, or the flash's own fault where power is off
+--     recorded count m p n b    the data of a sound record, by its first block
 --     CopiesData k s v z d r o  the same of this data
 use Rattle.std.specs.Prelude.{◌≡◌, ℕ, true, false, cond, List, ◌++◌, length, drop, Some, None, Ok, Err, MatchBool, Option, Result, nat_le}
 use Rattle.flash.specs.declared.fault.FlashFault.{FlashFault}

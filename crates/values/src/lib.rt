@@ -6,7 +6,7 @@ ghost use Rattle.std.proofs.Math.Seq.{paste};
 ghost use Rattle.layout.specs.Sizes.{followers, size as size_in};
 ghost use Rattle.layout.specs.Fields.{bytes as bytes_of};
 ghost use Rattle.layout.specs.Sound.{leads, sound};
-ghost use Rattle.layout.specs.Records.{data_at, data_from, value};
+ghost use Rattle.layout.specs.Records.{data_at, data_from};
 ghost use Rattle.layout.specs.Plans.{sizes_of};
 ghost use Rattle.layout.specs.Reads.{words_of};
 ghost use Rattle.values.specs.Copying.{recorded, Copies, CopiesData};

@@ -3,7 +3,7 @@
 --     Suits ..           number, serial, data and blocks suit the plan and the flash
 --     Counts z r         a record of z bytes takes r commands
 --     Wrote ..           the record stands in its blocks as it was given, and no other word changed
---     SoundWhenDone    the law: the commands of a record leave that
+--     SoundWhenDone      the law: the commands of a record leave that
 use Rattle.std.specs.Prelude.{◌≡◌, ℕ, ◌^◌, ◌<◌, ◌≤◌, true, false, List, [], ◌∷◌, length, None, ◌≢◌}
 use Rattle.std.specs.List.{AllByRecursion as All}
 use Rattle.flash.specs.State.{Words, Memory}

@@ -1,6 +1,6 @@
 -- The table of groups one block on; and its groups are those of the blocks.
 use Rattle.std.proofs.Common.{◌≡◌, ℕ, zero, suc, ◌+◌, ◌<◌, ◌≤◌, Bool, false, ltb, List, length, get_or, set, Some, None, Option, sym, refl, ap, ◌∙◌, inl, inr, arith}
-use Rattle.std.specs.List.{range_with_len, AllByRecursion as All}
+use Rattle.std.specs.List.{range_with_len, AllByRecursion}
 use Rattle.std.proofs.ByRecursion.{all_kept_by, All-weaker}
 use Rattle.std.proofs.lemmas.List.{get_or-set_same, get_or-set_other, length-set}
 use Rattle.std.proofs.lemmas.Bool.{cases_eq, cases_lt, lt-ltb, le-ltb, cond-true, cond-false}
@@ -71,7 +71,7 @@ module _ (count : ℕ) (m : Memory) (p : Sizes) where
     groups_beyond b l = g b ∙ ap (λ (s : Option BlockState). grouped s (first_in o.heads (numbers p) b)) (states b ∙ cond-false (ltb b count) _ _ (le-ltb b count l))
 
   -- every block of a group is one of the flash's
-  pub in_group_below : (g : Group) → All (λ x. x < count) (in_group count m p g)
+  pub in_group_below : (g : Group) → AllByRecursion (λ x. x < count) (in_group count m p g)
   unfolding in_group
   in_group_below g =
       all_kept_by (λ b. same_group (group_of (state count m p b) (is_first count m p b)) g) (λ x. x < count) (range_with_len 0 count)

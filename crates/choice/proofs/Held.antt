@@ -1,13 +1,13 @@
 -- Lists of blocks: what a list holds, and lists with no block twice.
 use Rattle.std.proofs.Common.{◌≡◌, ℕ, zero, suc, ◌+◌, ◌<◌, ◌≤◌, Bool, true, false, cond, eqb, ◌⊎◌, List, [], ◌∷◌, ◌++◌, take, filter, refl, subst, inl, inr, arith}
-use Rattle.std.specs.List.{range_with_len, AllByRecursion as All}
+use Rattle.std.specs.List.{range_with_len, AllByRecursion}
 use Rattle.std.proofs.ByRecursion.{All-take, all_kept_by, kept_by_passes}
 use Rattle.std.proofs.lemmas.Bool.{or_left, or_right, or_cases, eq-eqb, eqb-true, cases_Bool, both_ways, false≢true}
 use Rattle.layout.specs.States.{holds}
 use Rattle.writing.specs.Law.{Distinct}
 
 -- what holds of all blocks of a list holds of one that it has
-pub held_all : (P : ℕ → Type 0) (xs : List ℕ) (x : ℕ) → All P xs → holds xs x ≡ true → P x
+pub held_all : (P : ℕ → Type 0) (xs : List ℕ) (x : ℕ) → AllByRecursion P xs → holds xs x ≡ true → P x
 held_all P [] x a h = absurd (false≢true h)
 held_all P (y ∷ ys) x a h = go (λ k. held_all P ys x a.1 k) (or_cases (eqb y x) (holds ys x) h)
   where
@@ -15,7 +15,7 @@ held_all P (y ∷ ys) x a h = go (λ k. held_all P ys x a.1 k) (or_cases (eqb y 
     go r (inl e) = subst P (eqb-true y x e) a.0
     go r (inr e) = r e
 
-pub all_held : (P : ℕ → Type 0) (xs : List ℕ) → ((x : ℕ) → holds xs x ≡ true → P x) → All P xs
+pub all_held : (P : ℕ → Type 0) (xs : List ℕ) → ((x : ℕ) → holds xs x ≡ true → P x) → AllByRecursion P xs
 all_held P [] h = tt
 all_held P (y ∷ ys) h = (h y (or_left (eqb y y) (holds ys y) (eq-eqb y y refl)), all_held P ys (λ x k. h x (or_right (eqb y x) (holds ys x) k)))
 
@@ -23,7 +23,7 @@ pub not_held : (xs : List ℕ) (x : ℕ) → (holds xs x ≡ true → ⊥) → h
 not_held xs x h = elim (cases_Bool (holds xs x)) [ inl e ↦ absurd (h e) | inr e ↦ e ]
 
 -- the numbers from a on, k of them
-pub counting_within : (a k : ℕ) → All (λ x. (a ≤ x) × (x < a + k)) (range_with_len a k)
+pub counting_within : (a k : ℕ) → AllByRecursion (λ x. (a ≤ x) × (x < a + k)) (range_with_len a k)
 counting_within a zero = tt
 counting_within a (suc k) = (
   (omega arith, omega arith),
@@ -77,7 +77,7 @@ kept_distinct t (x ∷ xs) d = go (kept_distinct t xs d.1) (t x)
     go r false = r
 
 -- two tests that agree on a list keep the same
-pub kept_alike : (q t : ℕ → Bool) (xs : List ℕ) → All (λ x. q x ≡ t x) xs → filter q xs ≡ filter t xs
+pub kept_alike : (q t : ℕ → Bool) (xs : List ℕ) → AllByRecursion (λ x. q x ≡ t x) xs → filter q xs ≡ filter t xs
 kept_alike q t [] a = refl
 kept_alike q t (x ∷ xs) a = rw (a.0, kept_alike q t xs a.1) refl
 

@@ -1,6 +1,6 @@
 -- The round of a flash: every block once, from the one after the newest record's first block on.
 use Rattle.std.proofs.Common.{◌≡◌, ℕ, zero, suc, ◌+◌, ◌-◌, ◌<◌, ◌≤◌, min, Bool, ◌&&◌, ◌||◌, eqb, ltb, List, ◌++◌, length, Some, None, filter, Option, sym, refl, ap, ◌∙◌, add-one, arith}
-use Rattle.std.specs.List.{range_with_len, AllByRecursion as All}
+use Rattle.std.specs.List.{range_with_len, AllByRecursion}
 use Rattle.std.proofs.lemmas.List.Elements.{filter-append}
 use Rattle.std.proofs.ByRecursion.{All-append, All-weaker}
 use Rattle.std.proofs.lemmas.List.{length-append}
@@ -66,7 +66,7 @@ module _ (count : ℕ) (m : Memory) (p : Sizes) where
       go None h = omega arith
       go (Some b) h = h
 
-  pub round_within : All (λ x. x < count) (round count m p)
+  pub round_within : AllByRecursion (λ x. x < count) (round count m p)
   unfolding round
   round_within =
       let a = after (newest count m p) in

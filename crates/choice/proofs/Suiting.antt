@@ -1,6 +1,6 @@
 -- The free blocks that a write takes suit the commands of a record.
 use Rattle.std.proofs.Common.{◌≡◌, ℕ, zero, suc, ◌+◌, ◌<◌, ◌≤◌, Bool, true, false, ltb, List, length, Some, None, filter, Option, refl, subst, inl, inr, arith}
-use Rattle.std.specs.List.{AllByRecursion as All}
+use Rattle.std.specs.List.{AllByRecursion}
 use Rattle.std.proofs.ByRecursion.{All-take, all_kept_by}
 use Rattle.std.proofs.lemmas.List.{length-take-le}
 use Rattle.std.proofs.lemmas.Bool.{and_parts, and_right, or_parts, le-ltb, cases_eq, cases_lt, not-false, false≢true}
@@ -50,7 +50,7 @@ module _ (count : ℕ) (m : Memory) (p : Sizes) (k : ℕ) where
   abbrev is_free : ℕ → Bool
   is_free b = same_state (state count m p b) Free
 
-  pub free_blocks_below : All (λ x. x < count) (free_blocks count m p k)
+  pub free_blocks_below : AllByRecursion (λ x. x < count) (free_blocks count m p k)
   unfolding free_blocks
   free_blocks_below =
       All-take (λ x. x < count) k (filter is_free (round count m p)) (all_kept_by is_free (λ x. x < count) (round count m p) (round_within count m p))
@@ -69,7 +69,7 @@ module _ (count : ℕ) (m : Memory) (p : Sizes) (k : ℕ) where
 
 -- what the commands of a record ask of the blocks bs
 pub record FreeBlocks (s : State) (bs : List ℕ) : Type 0 where
-  pub inside : All (λ x. x < s.count) bs
+  pub inside : AllByRecursion (λ x. x < s.count) bs
   pub apart : Distinct bs
   pub free : (x : ℕ) → holds bs x ≡ true → Bare (s.word x)
 

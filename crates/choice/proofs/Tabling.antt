@@ -1,6 +1,6 @@
 -- The blocks found by the tables of a look over the flash are those that the layout defines.
 use Rattle.std.proofs.Common.{◌≡◌, ℕ, ◌<◌, ◌≤◌, min, Bool, true, ltb, List, [], ◌∷◌, take, Some, filter, Option, sym, refl, ap, ◌∙◌, subst, arith}
-use Rattle.std.specs.List.{AllByRecursion as All}
+use Rattle.std.specs.List.{AllByRecursion}
 use Rattle.std.proofs.ByRecursion.{All-weaker, all_kept_by, kept_by_passes}
 use Rattle.std.proofs.lemmas.Bool.{lt-ltb, cond-true}
 use Rattle.flash.specs.State.{Memory}
@@ -31,7 +31,7 @@ module _ (count : ℕ) (m : Memory) (p : Sizes) where
   first_below : (t : ℕ → Bool) (b : ℕ) → first_of (filter t (round count m p)) ≡ Some b → (b < count) × (t b ≡ true)
   first_below t b = go (filter t (round count m p)) (all_kept_by t (λ x. x < count) (round count m p) (round_within count m p)) (kept_by_passes t (round count m p))
     where
-      go : (xs : List ℕ) → All (λ x. x < count) xs → All (λ x. t x ≡ true) xs → first_of xs ≡ Some b → (b < count) × (t b ≡ true)
+      go : (xs : List ℕ) → AllByRecursion (λ x. x < count) xs → AllByRecursion (λ x. t x ≡ true) xs → first_of xs ≡ Some b → (b < count) × (t b ≡ true)
       go [] l q e = absurd (let z : ◌≡◌ {A = ℕ} 0 1 = cc in omega arith)
       go (x ∷ xs) l q e = let z : x ≡ b = cc in (subst (λ (y : ℕ). y < count) z l.0, subst (λ (y : ℕ). t y ≡ true) z q.0)
 

@@ -1,6 +1,6 @@
 -- Blocks cleared one after another: one block more, one list of blocks after another, and that no command of it is refused.
 use Rattle.std.proofs.Common.{◌≡◌, ℕ, ◌<◌, List, [], ◌∷◌, ◌++◌, Result, sym, refl, ap, ◌∙◌, subst, append_assoc}
-use Rattle.std.specs.List.{AllByRecursion as All}
+use Rattle.std.specs.List.{AllByRecursion}
 use Rattle.flash.specs.declared.fault.FlashFault.{FlashFault}
 use Rattle.flash.specs.State.{State, Memory}
 use Rattle.flash.specs.Commands.{Command}
@@ -14,7 +14,7 @@ use Rattle.writing.proofs.Taken.{taken_then}
 use Rattle.decision.specs.Calls.{clearings}
 
 -- no command is refused where the blocks are the flash's and power is on
-pub clearings_taken : (n : ℕ) (bs : List ℕ) (m : Memory) → All (λ b. b < n) bs → Taken n (clearings m bs) m
+pub clearings_taken : (n : ℕ) (bs : List ℕ) (m : Memory) → AllByRecursion (λ b. b < n) bs → Taken n (clearings m bs) m
 clearings_taken n [] m h = tt
 clearings_taken n (b ∷ bs) m h =
     taken_then n (clearing mark b m) (clearings (applied_all (clearing mark b m) m) bs) m (clearing_taken mark b n m h.0) (clearings_taken n bs (applied_all (clearing mark b m) m) h.1)

@@ -1,6 +1,6 @@
 -- What a write decides, one refusal after another.
 use Rattle.std.proofs.Common.{◌≡◌, ℕ, suc, ◌+◌, ◌^◌, ◌<◌, ◌≤◌, min, true, false, eqb, ltb, List, [], ◌∷◌, length, take, Some, None, Ok, Err, filter, Option, sym, refl, ap, ◌∙◌, subst, inl, inr, add-one, arith}
-use Rattle.std.specs.List.{AllByRecursion as All}
+use Rattle.std.specs.List.{AllByRecursion}
 use Rattle.std.proofs.lemmas.Bool.{lt-ltb, eq-eqb, cases_Bool, ltb-false, eqb-false, cond-true, cond-false}
 use Rattle.flash.specs.State.{State, Shaped, Words, Memory}
 use Rattle.flash.specs.Lists.{applied_all, Taken}
@@ -135,7 +135,7 @@ module _ (p : Sizes) (n : ℕ) (d : List ℕ) (bar : Bar) (k : ℕ) (s : State)
     write_roomless e h = to_room ∙ room_refused counts need writes e (h ∙ rooms)
 
     -- and there is room
-    module _ (x : Unit {0}) (room : Ok x ≡ roomed c z) (shape : Shaped s) (planned : Planned p) (bytes : All (λ x. x < 256) d)
+    module _ (x : Unit {0}) (room : Ok x ≡ roomed c z) (shape : Shaped s) (planned : Planned p) (bytes : AllByRecursion (λ x. x < 256) d)
         (states : (b : ℕ) → entry_in v.survey b ≡ entry_of s.count s.word p b) (r : Round) (i : ℕ) (goes : r ≡ round_after o i) (counted-so : i ≡ s.count) (few : z ≤ 20)
         (bs : List ℕ) (taken : bs ≡ take (min z 20) (filter (suited Writing v.survey) (round_of r))) where
       given : (by_room counts need writes ≡ writes) × (need ≤ counts.free)
@@ -176,7 +176,7 @@ module _ (p : Sizes) (n : ℕ) (d : List ℕ) (bar : Bar) (k : ℕ) (s : State)
             bytes = bytes;
             counted = fits;
             enough = let l : length (b ∷ cs) ≡ 1 + followers (size p n) = sym (ap length e) ∙ are_enough in omega arith;
-            inside = subst (All (λ x. x < s.count)) at f.inside;
+            inside = subst (AllByRecursion (λ x. x < s.count)) at f.inside;
             apart = subst Distinct at f.apart;
             free = λ y h. f.free y (subst (λ (l : List ℕ). holds l y ≡ true) (sym at) h);
           }

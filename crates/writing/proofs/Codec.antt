@@ -1,7 +1,7 @@
 -- Bytes put into words are read back.
 use Rattle.std.proofs.Common.{◌≡◌, ℕ, zero, suc, ◌+◌, ◌-◌, ◌*◌, ◌/◌, ◌%◌, ◌<◌, ◌≤◌, min, ltb, leb, List, [], ◌∷◌, ◌++◌, map, length, get_or, take, drop, Some, Option, refl, ap, ◌∙◌, arith, length-drop, length-take}
 use lib.Bits.{bit_xor, xor_lt}
-use Rattle.std.specs.List.{range_with_len, AllByRecursion as All}
+use Rattle.std.specs.List.{range_with_len, AllByRecursion}
 use Rattle.std.proofs.ByRecursion.{All-take, All-drop, All-append}
 use Rattle.std.proofs.lemmas.Bool.{cond_both, ltb-true}
 use Rattle.flash.specs.State.{Words}
@@ -14,7 +14,7 @@ use Rattle.layout.specs.Sound.{type_number, first_type}
 use Rattle.writing.specs.Writing.{word_of, first_bytes, follow_bytes}
 
 abbrev pub Small : List ℕ → Type 0
-Small l = All (λ x. x < 256) l
+Small l = AllByRecursion (λ x. x < 256) l
 
 pub small_at : (l : List ℕ) → Small l → (k : ℕ) → get_or l k 255 < 256
 small_at [] h k = omega arith

@@ -1,7 +1,7 @@
 -- Words that are programmed one by one: what they leave in their block, and the following blocks of a record in place.
 use Rattle.std.proofs.Common.{◌≡◌, ℕ, zero, suc, ◌+◌, ◌-◌, ◌*◌, ◌<◌, ◌≤◌, min, Bool, true, false, cond, ◌&&◌, eqb, ltb, leb, ◌⊎◌, List, [], ◌∷◌, ◌++◌, map, length, take, drop, Some, None, sym, refl, ap, ◌∙◌, subst, inl, inr, arith, length-drop, take-append-drop}
 use mathlib.Core.Path.{fun_ext}
-use Rattle.std.specs.List.{range_with_len, AllByRecursion as All}
+use Rattle.std.specs.List.{range_with_len, AllByRecursion}
 use Rattle.std.proofs.lemmas.List.{drop-drop, drop_all}
 use Rattle.std.proofs.lemmas.Bool.{and_from, or_left, or_right, or_parts, eq-eqb, eqb-false, lt-ltb, cases_eq, cases_lt, both_ways, not_from_false}
 use Rattle.std.proofs.lemmas.Bool.Decides.{nat_tests}
@@ -54,7 +54,7 @@ unfolding data_words share
 words_high s j = omega arith
 
 -- a block that the chain names has a number of two bytes
-pub next_small : (count first : ℕ) → count ≤ 256 → first < count → (l : List ℕ) → All (λ x. x < count) l → next_of first l < 65536
+pub next_small : (count first : ℕ) → count ≤ 256 → first < count → (l : List ℕ) → AllByRecursion (λ x. x < count) l → next_of first l < 65536
 next_small count first big lf [] q = omega arith
 next_small count first big lf (y ∷ ys) q = omega (arith, q.0)
 
@@ -129,7 +129,7 @@ module _ (s first : ℕ) (d : List ℕ) (small : Small d) where
       (not_from_false (written (m c 14)) (ap written (i.1 14 (words_high s j) (omega arith)))))
       i.2
 
-  pub image_leads : (count : ℕ) → count ≤ 256 → first < count → (m : Memory) (bs : List ℕ) (j : ℕ) → All (λ x. x < count) bs → Image m j bs
+  pub image_leads : (count : ℕ) → count ≤ 256 → first < count → (m : Memory) (bs : List ℕ) (j : ℕ) → AllByRecursion (λ x. x < count) bs → Image m j bs
       → leads count m s first j (next_of first bs) (length bs) ≡ true
   image_leads count big lf m [] j a i = eq-eqb first first refl
   image_leads count big lf m (c ∷ cs) j a i =
@@ -138,14 +138,14 @@ module _ (s first : ℕ) (d : List ℕ) (small : Small d) where
       (sym (follow_chain (m c) s j (next_of first cs) d small (next_small count first big lf cs a.1) (i.0.0 0 (omega (arith, words_low s j)))))
       (image_leads count big lf m cs (suc j) a.1 i.1))
 
-  pub image_chained : (count : ℕ) → count ≤ 256 → first < count → (m : Memory) (bs : List ℕ) (j : ℕ) → All (λ x. x < count) bs → Image m j bs
+  pub image_chained : (count : ℕ) → count ≤ 256 → first < count → (m : Memory) (bs : List ℕ) (j : ℕ) → AllByRecursion (λ x. x < count) bs → Image m j bs
       → chained m (next_of first bs) (length bs) ≡ bs
   image_chained count big lf m [] j a i = refl
   image_chained count big lf m (c ∷ cs) j a i =
       let ch : chain (m c) ≡ next_of first cs = follow_chain (m c) s j (next_of first cs) d small (next_small count first big lf cs a.1) (i.0.0 0 (omega (arith, words_low s j))) in
       ap (λ (t : List ℕ). c ∷ t) (ap (λ x. chained m x (length cs)) ch ∙ image_chained count big lf m cs (suc j) a.1 i.1)
 
-  pub image_data : (count : ℕ) → count ≤ 256 → first < count → (m : Memory) (bs : List ℕ) (j : ℕ) → All (λ x. x < count) bs → Image m j bs
+  pub image_data : (count : ℕ) → count ≤ 256 → first < count → (m : Memory) (bs : List ℕ) (j : ℕ) → AllByRecursion (λ x. x < count) bs → Image m j bs
       → length d ≡ s → s ≤ 41 + 53 * j + 53 * length bs
       → data_from m s j (next_of first bs) (length bs) ≡ drop (41 + 53 * j) d
   unfolding share

@@ -1,6 +1,6 @@
 -- On free blocks, no command of a record is refused.
 use Rattle.std.proofs.Common.{◌≡◌, ℕ, zero, suc, ◌+◌, ◌<◌, ◌≤◌, true, eqb, List, [], ◌∷◌, ◌++◌, map, Some, None, sym, refl, ap, ◌∙◌, subst, arith}
-use Rattle.std.specs.List.{range_with_len, AllByRecursion as All}
+use Rattle.std.specs.List.{range_with_len, AllByRecursion}
 use Rattle.std.proofs.lemmas.Bool.{or_left, or_right, eq-eqb, both_ways}
 use Rattle.flash.specs.State.{Words, Memory, put}
 use Rattle.flash.specs.Commands.{Command, program, applied}
@@ -29,7 +29,7 @@ words_taken count c l (suc k) a m lc h e = (
 )
 
 -- the following blocks
-follow_taken : (count s first : ℕ) (d bs : List ℕ) (j : ℕ) (m : Memory) → Distinct bs → All (λ x. x < count) bs → ((x : ℕ) → holds bs x ≡ true → Bare (m x))
+follow_taken : (count s first : ℕ) (d bs : List ℕ) (j : ℕ) (m : Memory) → Distinct bs → AllByRecursion (λ x. x < count) bs → ((x : ℕ) → holds bs x ≡ true → Bare (m x))
     → Taken count (follow_commands s first d j bs) m
 follow_taken count s first d [] j m apart inside free = tt
 follow_taken count s first d (c ∷ cs) j m apart inside free =

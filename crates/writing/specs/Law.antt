@@ -5,7 +5,7 @@
 --     Wrote ..           the record stands in its blocks as it was given, and no other word changed
 --     SoundWhenDone      the law: the commands of a record leave that
 use Rattle.std.specs.Prelude.{◌≡◌, ℕ, ◌^◌, ◌<◌, ◌≤◌, true, false, List, [], ◌∷◌, length, None, ◌≢◌}
-use Rattle.std.specs.List.{AllByRecursion as All}
+use Rattle.std.specs.List.{AllByRecursion}
 use Rattle.flash.specs.State.{Words, Memory}
 use Rattle.flash.specs.Lists.{applied_all}
 use Rattle.layout.specs.Sizes.{Sizes, Planned, numbers, size, followers}
@@ -30,10 +30,10 @@ pub record Suits (count : ℕ) (p : Sizes) (n s : ℕ) (d : List ℕ) (b : ℕ) 
   pub planned : Planned p
   pub known : n < numbers p
   pub sized : length d ≡ size p n
-  pub bytes : All (λ x. x < 256) d
+  pub bytes : AllByRecursion (λ x. x < 256) d
   pub counted : s < 2 ^ 32
   pub enough : length bs ≡ followers (size p n)
-  pub inside : All (λ x. x < count) (b ∷ bs)
+  pub inside : AllByRecursion (λ x. x < count) (b ∷ bs)
   pub apart : Distinct (b ∷ bs)
   pub free : (x : ℕ) → holds (b ∷ bs) x ≡ true → Bare (m x)
 

@@ -1,6 +1,6 @@
 -- The refusals in their order, and the record that is written.
 use Rattle.std.proofs.Common.{◌≡◌, ◌+◌, ◌<◌, ◌≤◌, length, ◌∙◌, arith}
-use Rattle.std.specs.List.{AllByRecursion as All}
+use Rattle.std.specs.List.{AllByRecursion}
 use Rattle.std.proofs.ByRecursion.{All-from_get_or}
 use Rattle.std.proofs.lemmas.Result.{err_from_is_err_and}
 use mir.Facts.{Fits-lt-pow}
@@ -55,7 +55,7 @@ returns g c =
     let tallied : c.counts.result ≡ counts_of s.count s.word p = c.counts.ensures ∙ tally_counted s.count s.word p c.in_ok-seen.seen.survey seen.2 c.block_count.ensures.shape.few in
     let wanted = blocks_wanted p n z c.follower_count-need.result known.1 c.follower_count-need.ensures.count in
     let planned : Planned p = front_planned plan.sizes plan.count plan.whole plan.few plan.some plan.sized in
-    let bytes : All (λ x. x < 256) d = All-from_get_or (λ x. x < 256) d 0 (λ i h. Fits-lt-pow (c.type_inv.data i)) in
+    let bytes : AllByRecursion (λ x. x < 256) d = All-from_get_or (λ x. x < 256) d 0 (λ i h. Fits-lt-pow (c.type_inv.data i)) in
     let few : 1 + c.follower_count-need.result ≤ 20 = omega (arith, c.follower_count-need.ensures.few known.3) in
     let w =
     write_decided p n d c.args.bar.now m.kind s known.0 sized c.if-bar.false seen.0 c.in_ok-seen.seen seen.1 c.newest-latest.result c.newest-latest.ensures

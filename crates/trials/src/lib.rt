@@ -1,4 +1,6 @@
 //! Examples of the kinds of flash and of clearing, with the bytes and faults written out by hand.
+#![tactic(auto)]
+
 #[cfg(test)]
 mod tests {
     use clearing::{clear, mend};

@@ -10,7 +10,6 @@ mod tests {
     use pair::Pair;
     use part::Part;
     use simulated::{Cells, Image};
-    use std::process::Abort;
     use std::test::Fail;
 
     const VALUE: u32 = 0x0403_0201;
@@ -25,7 +24,7 @@ mod tests {
     }
 
     // Word 9 of block 1, and every refusal around it, with the power lost in an erase at last.
-    fn goes_by_the_rules<F: Flash>(rt: &impl Abort, flash: &mut F, kind: u8) {
+    fn goes_by_the_rules<F: Flash>(rt: &HostRuntime, flash: &mut F, kind: u8) {
         let block = BlockNumber(1);
         assert_eq!(rt; flash.block_count(), 3);
         assert_eq!(rt; flash.erase(block), Ok(()));
@@ -61,7 +60,11 @@ mod tests {
     }
 
     // What a stopped program leaves in word 0 of block 2, in a manner.
-    fn stopped<F: Flash>(rt: &impl Abort, flash: &mut F, manner: u32) -> Result<Option<u32>, Fail> {
+    fn stopped<F: Flash>(
+        rt: &HostRuntime,
+        flash: &mut F,
+        manner: u32,
+    ) -> Result<Option<u32>, Fail> {
         flash.restore(Rehearsal {
             commands: 1,
             manner,
@@ -75,7 +78,7 @@ mod tests {
         Ok(flash.look(BlockNumber(2), 0)?)
     }
 
-    fn stops_in_each_manner<F: Flash>(rt: &impl Abort, flash: &mut F) -> Result<(), Fail> {
+    fn stops_in_each_manner<F: Flash>(rt: &HostRuntime, flash: &mut F) -> Result<(), Fail> {
         assert_eq!(rt; stopped(rt, flash, 0)?, None);
         assert_eq!(rt; stopped(rt, flash, 1)?, Some(VALUE));
         assert_eq!(rt; stopped(rt, flash, 2)?, Some(2));
@@ -142,7 +145,7 @@ mod tests {
     }
 
     // The bytes that the board's two chips are left with.
-    fn bytes_of_both_chips(rt: &impl Abort, image: &[u8], cells: &[u8]) {
+    fn bytes_of_both_chips(rt: &HostRuntime, image: &[u8], cells: &[u8]) {
         assert!(rt; image.len() == 264 && cells.len() == 240);
         assert_eq!(rt;
             [

@@ -1,6 +1,8 @@
 //! Examples of the kinds of flash and of clearing, with the bytes and faults written out by hand.
 #![tactic(auto)]
 
+ghost use Rattle.std.specs.Prelude.{IfOk, IsTrue};
+
 #[cfg(test)]
 mod tests {
     use clearing::{clear, mend};
@@ -10,6 +12,7 @@ mod tests {
     use pair::Pair;
     use part::Part;
     use simulated::{Cells, Image};
+    use std::fmt::Debug;
     use std::test::Fail;
 
     const VALUE: u32 = 0x0403_0201;
@@ -23,54 +26,61 @@ mod tests {
         })
     }
 
+    // A failure unless this holds.
+    fn check(holds: bool) -> Result<(), Fail>
+        ensures { IfOk result (λ _. IsTrue holds) }
+    {
+        if holds {
+            Ok(())
+        } else {
+            Err(Fail::new("does not hold"))
+        }
+    }
+
+    // A failure unless the two are equal.
+    fn check_eq<T: PartialEq + Debug + Copy>(found: T, wanted: T) -> Result<(), Fail> {
+        if found == wanted {
+            Ok(())
+        } else {
+            Err(Fail::new(format_args!("{found:?}, and not {wanted:?}")))
+        }
+    }
+
     // Word 9 of block 1, and every refusal around it, with the power lost in an erase at last.
-    fn goes_by_the_rules<F: Flash>(rt: &HostRuntime, flash: &mut F, kind: u8) {
+    fn goes_by_the_rules<F: Flash>(flash: &mut F, kind: u8) -> Result<(), Fail> {
         let block = BlockNumber(1);
-        assert_eq!(rt; flash.block_count(), 3);
-        assert_eq!(rt; flash.erase(block), Ok(()));
-        assert_eq!(rt; flash.program(block, 9, VALUE), Ok(()));
-        assert_eq!(rt; flash.look(block, 9).ok(), Some(Some(VALUE)));
-        assert_eq!(rt; flash.look(block, 8).ok(), Some(None));
-        assert_eq!(rt;
+        check_eq(flash.block_count(), 3)?;
+        check_eq(flash.erase(block), Ok(()))?;
+        check_eq(flash.program(block, 9, VALUE), Ok(()))?;
+        check_eq(flash.look(block, 9).ok(), Some(Some(VALUE)))?;
+        check_eq(flash.look(block, 8).ok(), Some(None))?;
+        check_eq(
             flash.program(block, 9, 7),
-            fault(Cause::Written, kind, 1, 9)
-        );
-        assert_eq!(rt;
+            fault(Cause::Written, kind, 1, 9),
+        )?;
+        check_eq(
             flash.program(BlockNumber(3), 16, 7),
-            fault(Cause::Block, kind, 3, 16)
-        );
-        assert_eq!(rt;
-            flash.program(block, 16, 7),
-            fault(Cause::Word, kind, 1, 16)
-        );
-        assert_eq!(rt;
-            flash.erase(BlockNumber(3)),
-            fault(Cause::Block, kind, 3, 0)
-        );
+            fault(Cause::Block, kind, 3, 16),
+        )?;
+        check_eq(flash.program(block, 16, 7), fault(Cause::Word, kind, 1, 16))?;
+        check_eq(flash.erase(BlockNumber(3)), fault(Cause::Block, kind, 3, 0))?;
         flash.restore(Rehearsal {
             commands: 0,
             manner: 0x0100,
         });
-        assert_eq!(rt; flash.erase(block), fault(Cause::Power, kind, 1, 0));
-        assert_eq!(rt;
-            flash.erase(BlockNumber(3)),
-            fault(Cause::Power, kind, 0, 0)
-        );
-        assert!(rt; !flash.has_power());
+        check_eq(flash.erase(block), fault(Cause::Power, kind, 1, 0))?;
+        check_eq(flash.erase(BlockNumber(3)), fault(Cause::Power, kind, 0, 0))?;
+        check(!flash.has_power())
     }
 
     // What a stopped program leaves in word 0 of block 2, in a manner.
-    fn stopped<F: Flash>(
-        rt: &HostRuntime,
-        flash: &mut F,
-        manner: u32,
-    ) -> Result<Option<u32>, Fail> {
+    fn stopped<F: Flash>(flash: &mut F, manner: u32) -> Result<Option<u32>, Fail> {
         flash.restore(Rehearsal {
             commands: 1,
             manner,
         });
-        assert!(rt; flash.erase(BlockNumber(2)).is_ok());
-        assert!(rt; flash.program(BlockNumber(2), 0, VALUE).is_err());
+        check(flash.erase(BlockNumber(2)).is_ok())?;
+        check(flash.program(BlockNumber(2), 0, VALUE).is_err())?;
         flash.restore(Rehearsal {
             commands: 0,
             manner: 0,
@@ -78,19 +88,18 @@ mod tests {
         Ok(flash.look(BlockNumber(2), 0)?)
     }
 
-    fn stops_in_each_manner<F: Flash>(rt: &HostRuntime, flash: &mut F) -> Result<(), Fail> {
-        assert_eq!(rt; stopped(rt, flash, 0)?, None);
-        assert_eq!(rt; stopped(rt, flash, 1)?, Some(VALUE));
-        assert_eq!(rt; stopped(rt, flash, 2)?, Some(2));
-        assert_eq!(rt; stopped(rt, flash, 0xFFFF_FFFF)?, Some(0xFFFF_FFFF));
-        Ok(())
+    fn stops_in_each_manner<F: Flash>(flash: &mut F) -> Result<(), Fail> {
+        check_eq(stopped(flash, 0)?, None)?;
+        check_eq(stopped(flash, 1)?, Some(VALUE))?;
+        check_eq(stopped(flash, 2)?, Some(2))?;
+        check_eq(stopped(flash, 0xFFFF_FFFF)?, Some(0xFFFF_FFFF))
     }
 
     #[test]
     fn image_goes_by_the_rules(rt: HostRuntime) -> Result<(), Fail> {
         let mut flash = Image::new(vec![in rt.alloc(); 0x55u8; 198]?);
         assert_eq!(rt; Image::KIND, 1);
-        goes_by_the_rules(&rt, &mut flash, 1);
+        goes_by_the_rules(&mut flash, 1)?;
         let bytes = flash.into_memory();
         assert!(rt; bytes.len() == 198);
         assert_eq!(rt;
@@ -112,7 +121,7 @@ mod tests {
     fn cells_go_by_the_rules(rt: HostRuntime) -> Result<(), Fail> {
         let mut flash = Cells::new(vec![in rt.alloc(); 0x55u8; 240]?);
         assert_eq!(rt; Cells::KIND, 2);
-        goes_by_the_rules(&rt, &mut flash, 2);
+        goes_by_the_rules(&mut flash, 2)?;
         let bytes = flash.into_memory();
         assert!(rt; bytes.len() == 240);
         assert_eq!(rt;
@@ -128,8 +137,8 @@ mod tests {
 
     #[test]
     fn both_stop_in_each_manner(rt: HostRuntime) -> Result<(), Fail> {
-        stops_in_each_manner(&rt, &mut Image::new(vec![in rt.alloc(); 0u8; 198]?))?;
-        stops_in_each_manner(&rt, &mut Cells::new(vec![in rt.alloc(); 0u8; 240]?))
+        stops_in_each_manner(&mut Image::new(vec![in rt.alloc(); 0u8; 198]?))?;
+        stops_in_each_manner(&mut Cells::new(vec![in rt.alloc(); 0u8; 240]?))
     }
 
     // Blocks 1 and 2 of an image, then three blocks of cells.
@@ -145,26 +154,26 @@ mod tests {
     }
 
     // The bytes that the board's two chips are left with.
-    fn bytes_of_both_chips(rt: &HostRuntime, image: &[u8], cells: &[u8]) {
-        assert!(rt; image.len() == 264 && cells.len() == 240);
-        assert_eq!(rt;
+    fn bytes_of_both_chips(image: &[u8], cells: &[u8]) -> Result<(), Fail> {
+        check(image.len() == 264 && cells.len() == 240)?;
+        check_eq(
             [
                 image[164], image[165], image[166], image[167], image[188], image[192],
             ],
-            [1, 2, 3, 4, 0xAA, 0x55]
-        );
-        assert_eq!(rt;
+            [1, 2, 3, 4, 0xAA, 0x55],
+        )?;
+        check_eq(
             [image[258], image[259], image[260], image[261], image[262]],
-            [0x55, 0x55, 0, 0x82, 0x55]
-        );
-        assert_eq!(rt;
+            [0x55, 0x55, 0, 0x82, 0x55],
+        )?;
+        check_eq(
             [cells[45], cells[46], cells[47], cells[48], cells[49]],
-            [0, 1, 2, 3, 4]
-        );
-        assert_eq!(rt;
+            [0, 1, 2, 3, 4],
+        )?;
+        check_eq(
             [cells[74], cells[75], cells[79], cells[80]],
-            [0xFF, 0, 0xAA, 0x55]
-        );
+            [0xFF, 0, 0xAA, 0x55],
+        )
     }
 
     #[test]
@@ -195,8 +204,7 @@ mod tests {
         let (part, cells) = flash.into_flashes();
         let image = part.into_below().into_memory();
         let cells = cells.into_memory();
-        bytes_of_both_chips(&rt, &image, &cells);
-        Ok(())
+        bytes_of_both_chips(&image, &cells)
     }
 
     #[test]

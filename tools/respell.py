@@ -4,8 +4,8 @@
 usage: python3 tools/respell.py        at the top of the repository; prints each name that changed
 
 It reads the definitions of specs/ and proofs/ (fields and short names given by `as` too) and writes each use of a name in
-specs/, proofs/ and the clauses of src/. Names that the toolchain makes for goals and steps, text and comments keep their spelling,
-but for the tables of names at the head of a file.
+specs/, proofs/ and the clauses of src/. Names that the library has or that the toolchain makes for goals and steps keep their spelling,
+and so do the comments of src/; in those of specs/ and proofs/ a name is a name, but for the words of prose listed below.
 """
 import glob
 import re
@@ -57,7 +57,7 @@ def own_names():
 
 
 def turned(line, names, mark):
-    """The line with every name respelled; behind a comment mark only a name that begins a table's row."""
+    """The line with every name respelled; in a comment of src/ none, in another one a word of prose only where it begins a row of a table."""
     at = line.find(mark)
     code, said = (line, "") if at < 0 else (line[:at], line[at:])
     code = names.sub(lambda m: spelled(m[0]), code)

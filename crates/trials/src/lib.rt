@@ -38,7 +38,9 @@ mod tests {
     }
 
     // A failure unless the two are equal.
-    fn check_eq<T: PartialEq + Debug + Copy>(found: T, wanted: T) -> Result<(), Fail> {
+    fn check_eq<T: PartialEq + Debug + Copy>(found: T, wanted: T) -> Result<(), Fail>
+        ensures { IfOk result (λ _. IsTrue (T.eq found wanted)) }
+    {
         if found == wanted {
             Ok(())
         } else {

@@ -4,6 +4,8 @@
 ghost use Rattle.std.specs.Prelude.{◌≡◌};
 ghost use Rattle.bar.specs.Marks.{open_bar};
 
+use std::mem;
+
 /// The marks that forbid calls.
 #[derive(Clone, Copy, PartialEq, Eq, Debug)]
 pub struct Bar {
@@ -34,8 +36,7 @@ impl<'a> Lifted<'a> {
         ensures saved { result.saved ≡ bar.old }
         ensures lends { result.bar.ghost_name ≡ bar.entry.ghost_name }
     {
-        let saved = *bar;
-        *bar = Bar::OPEN;
+        let saved = mem::replace(bar, Bar::OPEN);
         Lifted { bar, saved }
     }
 

@@ -1,8 +1,7 @@
 -- The table of groups one block on; and its groups are those of the blocks.
-use Rattle.std.proofs.Common.{◌≡◌, ℕ, zero, suc, ◌+◌, ◌<◌, ◌≤◌, Bool, false, ltb, List, length, get_or, set, Some, None, Option, sym, refl, ap, ◌∙◌, inl, inr, arith}
+use Rattle.std.proofs.Common.{◌≡◌, ℕ, zero, suc, ◌+◌, ◌<◌, ◌≤◌, Bool, false, ltb, List, get_or, Some, None, Option, sym, refl, ap, ◌∙◌, subst, inl, inr, arith}
 use Rattle.std.specs.List.{range_with_len, AllByRecursion}
 use Rattle.std.proofs.ByRecursion.{all_kept_by, All-weaker}
-use Rattle.std.proofs.lemmas.List.{get_or-set_same, get_or-set_other, length-set}
 use Rattle.std.proofs.lemmas.Bool.{cases_eq, cases_lt, lt-ltb, le-ltb, cond-true, cond-false}
 use Rattle.flash.specs.State.{Memory}
 use Rattle.layout.specs.declared.state.BlockState.{BlockState}
@@ -13,7 +12,11 @@ use Rattle.records.specs.declared.head.Heads.{Heads}
 use Rattle.records.specs.Heads.{headed, head_in}
 use Rattle.records.specs.Tables.{Tabled}
 use Rattle.survey.specs.declared.overview.Overview.{Overview}
-use Rattle.survey.specs.Entries.{entry_in, entry_of}
+use Rattle.records.specs.Entries.{entry_in}
+use Rattle.survey.specs.Entries.{entry_of}
+use Rattle.std.specs.Array.{IsFromFnResultFrom}
+use Rattle.std.specs.Fn.{Called}
+use denote.Param.Members.{Mut}
 use Rattle.choice.specs.declared.group.Group.{Group}
 use Rattle.choice.specs.declared.group.Groups.{Groups}
 use Rattle.choice.specs.Choosing.{group_of, begins, is_first, same_group, in_group}
@@ -24,23 +27,20 @@ use Rattle.choice.proofs.Held.{counting_within}
 abbrev group_to_be : Overview → Sizes → ℕ → Option Group
 group_to_be o p k = grouped (entry_in o.survey k) (first_in o.heads (numbers p) k)
 
--- the blocks below b have their groups
-abbrev pub GroupedBelow : Overview → Sizes → ℕ → Groups → Type 0
-GroupedBelow o p b t = (length t.entries ≡ 256) × ((k : ℕ) → k < b → get_or t.entries k None ≡ group_to_be o p k)
+-- what each call of a closure gives, whatever it was called with before, stands in the array that the calls make
+pub made : {F B : Type 0} (g : Mut F (ℕ × Unit {0}) B) (h : ℕ → B) (f : F) (n : ℕ) → ((x : ℕ) (y : B) (q : F) → x < n → Called g f (x, tt) y q → (q ≡ f) × (y ≡ h x))
+    → (ys : List B) (i k : ℕ) → i + k ≡ n → IsFromFnResultFrom g f ys i k → (x : ℕ) (d : B) → i ≤ x → x < n → get_or ys x d ≡ h x
+made g h f n call ys i zero e r x d a b = absurd (omega arith)
+made g h f n call ys i (suc k) e (q, y, is, called, rest) x d a b =
+    let gave = call i y q (omega arith) called in
+    elim (cases_eq x i) [
+      | inl z ↦ rw z (is.1 d ∙ gave.1)
+      | inr z ↦ made g h f n call ys (i + 1) k (omega arith) (subst (λ p. IsFromFnResultFrom g p ys (i + 1) k) gave.0 rest) x d (omega arith) b
+    ]
 
-pub grouped_more : (o : Overview) (p : Sizes) (b : ℕ) (t v : Groups) (x : Option Group) → b < 256 → GroupedBelow o p b t → x ≡ group_to_be o p b → v.entries ≡ set t.entries b x → GroupedBelow o p (b + 1) v
-grouped_more o p b t v x l h e g =
-    let lt : b < length t.entries = omega (arith, h.0) in (
-      ap length g ∙ length-set t.entries b x ∙ h.0,
-      λ k i. ap (λ (es : List (Option Group)). get_or es k None) g ∙ elim (cases_eq k b) [
-        | inl z ↦ rw z (get_or-set_same t.entries b x None lt ∙ e)
-        | inr z ↦ get_or-set_other t.entries b k x None z ∙ h.1 k (omega arith)
-      ],
-    )
-
-pub grouped_all : (o : Overview) (p : Sizes) (b : ℕ) (t : Groups) → 256 ≤ b → GroupedBelow o p b t → Grouped o p t
-grouped_all o p n t e h b = elim (cases_lt b 256) [
-  | inl l ↦ cond-true (ltb b 256) _ _ (lt-ltb b 256 l) ∙ h.1 b (omega arith)
+pub grouped_all : (o : Overview) (p : Sizes) (t : Groups) → ((k : ℕ) → k < 256 → get_or t.entries k None ≡ group_to_be o p k) → Grouped o p t
+grouped_all o p t h b = elim (cases_lt b 256) [
+  | inl l ↦ cond-true (ltb b 256) _ _ (lt-ltb b 256 l) ∙ h b l
   | inr l ↦
       let f : ltb b 256 ≡ false = le-ltb b 256 l in
       cond-false (ltb b 256) _ _ f ∙ sym (ap (λ (s : Option BlockState). grouped s (first_in o.heads (numbers p) b)) (cond-false (ltb b 256) _ _ f))

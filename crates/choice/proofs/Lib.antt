@@ -1,4 +1,4 @@
--- Lemmas: lists of blocks; the first block of use; free blocks taken one after another; groups; the round of a flash; what the tables give; free blocks suit a record.
+-- Lemmas: lists of blocks; the first block of use; a list that takes all of a chain; groups; the round of a flash; what the tables give; free blocks suit a record.
 pub mod Held
 pub mod Finds
 pub mod Takes

@@ -11,8 +11,9 @@ use Rattle.layout.specs.Records.{newest, round}
 use Rattle.layout.specs.States.{state, same_state, of_state}
 use Rattle.records.specs.declared.head.Head.{Head}
 use Rattle.records.specs.Heads.{headed}
-use Rattle.survey.specs.declared.table.Survey.{Survey}
-use Rattle.survey.specs.Entries.{entry_in, entry_of}
+use Rattle.records.specs.declared.table.Survey.{Survey}
+use Rattle.records.specs.Entries.{entry_in}
+use Rattle.survey.specs.Entries.{entry_of}
 use Rattle.choice.specs.declared.round.Purpose.{Purpose}
 use Rattle.choice.specs.declared.round.Purpose.TheVariants.{Writing, Erasing}
 use Rattle.choice.specs.Choosing.{free_blocks, useless, first_of, erasable}

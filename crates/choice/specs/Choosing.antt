@@ -51,24 +51,16 @@ begins (Some c) b = c == b
 unfoldable pub is_first : ℕ → Memory → Sizes → ℕ → Bool
 is_first count m p b = some_below (λ n. begins (current count m p n) b) (numbers p)
 
+-- a number for each group
+abbrev pub group_number : Group → ℕ
+group_number group.HalfErased = 0
+group_number group.NotLive = 1
+group_number group.LiveFirst = 2
+group_number group.LiveFollowing = 3
+
 -- whether two groups are the same
 abbrev pub same_group : Group → Group → Bool
-same_group group.HalfErased group.HalfErased = true
-same_group group.HalfErased group.NotLive = false
-same_group group.HalfErased group.LiveFirst = false
-same_group group.HalfErased group.LiveFollowing = false
-same_group group.NotLive group.HalfErased = false
-same_group group.NotLive group.NotLive = true
-same_group group.NotLive group.LiveFirst = false
-same_group group.NotLive group.LiveFollowing = false
-same_group group.LiveFirst group.HalfErased = false
-same_group group.LiveFirst group.NotLive = false
-same_group group.LiveFirst group.LiveFirst = true
-same_group group.LiveFirst group.LiveFollowing = false
-same_group group.LiveFollowing group.HalfErased = false
-same_group group.LiveFollowing group.NotLive = false
-same_group group.LiveFollowing group.LiveFirst = false
-same_group group.LiveFollowing group.LiveFollowing = true
+same_group g h = group_number g == group_number h
 
 -- the blocks of a group, ascending
 unfoldable pub in_group : ℕ → Memory → Sizes → Group → List ℕ

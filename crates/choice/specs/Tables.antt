@@ -1,5 +1,6 @@
 -- Which blocks a call takes, from the tables that a pass over the flash fills: the states of all blocks and the current records.
 --     round_of r             the blocks of a round, in order
+--     blocks_left b          the blocks of a round that have not come yet
 --     round_after o count    the round that starts after the newest record's first block
 --     suits a o              whether a block with this entry is of use
 --     found_in a u r         the first block of use in a round
@@ -17,11 +18,12 @@ use Rattle.records.specs.declared.head.Head.{Head}
 use Rattle.records.specs.declared.head.Heads.{Heads}
 use Rattle.records.specs.Heads.{head_in}
 use Rattle.survey.specs.declared.overview.Overview.{Overview}
-use Rattle.survey.specs.declared.table.Survey.{Survey}
-use Rattle.survey.specs.Entries.{entry_in}
+use Rattle.records.specs.declared.table.Survey.{Survey}
+use Rattle.records.specs.Entries.{entry_in}
 use Rattle.choice.specs.declared.group.Group.{Group}
 use Rattle.choice.specs.declared.group.Groups.{Groups}
 use Rattle.choice.specs.declared.round.Round.{Round}
+use Rattle.choice.specs.declared.round.RoundBlocks.{RoundBlocks}
 use Rattle.choice.specs.declared.round.Purpose.{Purpose}
 use Rattle.choice.specs.declared.round.Purpose.TheVariants.{Writing, Erasing}
 use Rattle.choice.specs.Choosing.{useless, first_of, group_of}
@@ -29,6 +31,10 @@ use Rattle.choice.specs.Choosing.{useless, first_of, group_of}
 -- up from its start, round the end
 abbrev pub round_of : Round → List ℕ
 round_of r = range_with_len r.start (r.count - r.start) ++ range_with_len 0 r.start
+
+-- those from the start up, and then those below it
+abbrev pub blocks_left : RoundBlocks → List ℕ
+blocks_left b = range_with_len b.upper.start (b.upper.end - b.upper.start) ++ range_with_len b.lower.start (b.lower.end - b.lower.start)
 
 -- the block after a record's first block, by its head; 0 without a record
 abbrev pub after_head : Option Head → ℕ

@@ -20,7 +20,8 @@ pub enum Group {
 }
 
 /// The group of every block that a flash may have; none where there is no such block.
-#[derive(Clone, Copy)]
+// A table of its own, as `Heads` and `Survey` are: one type for all, generic in the entry, gets no proof of its `Clone`.
+#[derive(Clone, Copy, PartialEq, Eq, Debug)]
 pub struct Groups {
     entries: [Option<Group>; 256],
 }
@@ -30,9 +31,6 @@ impl Groups {
     pub fn get(&self, block: BlockNumber) -> Option<Group>
         ensures { result ≡ group_in self.now block.0 }
     {
-        if block.0 >= 256 {
-            return None;
-        }
-        self.entries[block.0 as usize]
+        *self.entries.get(block.0 as usize)?
     }
 }

@@ -21,7 +21,7 @@ pub const MARK: u32 = 0xAAAA_AAAA;
 /// Clears a block: programs erase start if it is blank, erases the block, and programs erase end.
 /// It is refused as a look at erase start is.
 pub fn clear<F: Flash>(flash: &mut F, block: BlockNumber) -> Result<(), FlashFault>
-    ensures told { Told F.model (reached F.model.kind (F.model.meaning flash.old) block.0 14) (clearing mark block.0 (F.model.meaning flash.old).word) flash.old result flash.new }
+    ensures told { let s = F.model.meaning flash.old in Told F.model (reached F.model.kind s block.0 14) (clearing mark block.0 s.word) flash.old result flash.new }
     ensures freed { OnOk result (F.model.meaning flash.new ≡ freed mark block.0 (F.model.meaning flash.old)) }
     ensures others { Others block.0 (F.model.meaning flash.old) (F.model.meaning flash.new) }
 {
@@ -39,7 +39,7 @@ pub fn mend<F: Flash>(flash: &mut F, block: BlockNumber) -> Result<(), FlashFaul
 }
 
 fn run_clearing<F: Flash>(flash: &mut F, block: BlockNumber) -> Result<(), FlashFault>
-    ensures { Told F.model (reached F.model.kind (F.model.meaning flash.old) block.0 14) (clearing mark block.0 (F.model.meaning flash.old).word) flash.old result flash.new }
+    ensures { let s = F.model.meaning flash.old in Told F.model (reached F.model.kind s block.0 14) (clearing mark block.0 s.word) flash.old result flash.new }
 {
     if flash.look(block, ERASE_START)?.is_none() {
         flash.program(block, ERASE_START, MARK)?;

@@ -9,7 +9,8 @@ use Rattle.records.specs.declared.head.Head.{Head}
 use Rattle.records.specs.Tables.{Tabled}
 use Rattle.survey.specs.declared.overview.Overview.{Overview}
 use Rattle.survey.specs.Newest.{newest_in}
-use Rattle.survey.specs.Entries.{entry_in, entry_of}
+use Rattle.records.specs.Entries.{entry_in}
+use Rattle.survey.specs.Entries.{entry_of}
 use Rattle.survey.proofs.Newer.{newest_table}
 use Rattle.choice.specs.declared.round.Round.{Round}
 use Rattle.choice.specs.declared.round.Purpose.TheVariants.{Erasing}

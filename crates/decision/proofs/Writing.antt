@@ -12,13 +12,15 @@ use Rattle.records.specs.declared.head.Head.{Head}
 use Rattle.records.specs.Heads.{headed}
 use Rattle.records.specs.Tables.{Tabled}
 use Rattle.survey.specs.declared.overview.Overview.{Overview}
-use Rattle.survey.specs.declared.table.Counts.{Counts}
+use Rattle.records.specs.declared.table.Counts.{Counts}
 use Rattle.survey.specs.Newest.{newest_in}
-use Rattle.survey.specs.Entries.{entry_in, entry_of, counts_of}
+use Rattle.records.specs.Entries.{entry_in}
+use Rattle.survey.specs.Entries.{entry_of, counts_of}
 use Rattle.survey.proofs.Newer.{newest_table}
-use Rattle.writing.specs.Sized.{record_on}
+use Rattle.writing.specs.Writing.{record_on}
 use Rattle.writing.specs.Law.{Distinct, Suits, Wrote}
-use Rattle.writing.proofs.BySize.{record_on_taken, record_on_wrote}
+use Rattle.writing.proofs.Taken.{record_taken}
+use Rattle.writing.proofs.Written.{sound_when_done}
 use Rattle.choice.specs.declared.round.Round.{Round}
 use Rattle.choice.specs.declared.round.Purpose.TheVariants.{Writing}
 use Rattle.choice.specs.Choosing.{free_blocks}
@@ -189,7 +191,7 @@ module _ (p : Sizes) (n : ℕ) (d : List ℕ) (bar : Bar) (k : ℕ) (s : State)
       write_taken q e =
           let f = some_block bs refl in
           subst (λ (j : ℕ). Taken s.count (record_on j n next d bs) s.word) (sym e)
-          (subst (λ (l : List ℕ). Taken s.count (record_on (size p n) n next d l) s.word) (sym f.2) (record_on_taken s.count p n next d f.0 f.1 s.word (suited_so f.0 f.1 f.2)))
+          (subst (λ (l : List ℕ). Taken s.count (record_on (size p n) n next d l) s.word) (sym f.2) (record_taken s.count p n next d f.0 f.1 s.word (suited_so f.0 f.1 f.2)))
 
       write_leads : (q : ℕ) → q ≡ size p n → LeadsToRecord s.count s.word p n d next (applied_all (record_on q n next d bs) s.word)
       write_leads q e =
@@ -199,7 +201,7 @@ module _ (p : Sizes) (n : ℕ) (d : List ℕ) (bar : Bar) (k : ℕ) (s : State)
             sym are_free ∙ f.2,
             subst (λ (j : ℕ). Wrote s.count p n next d f.0 f.1 s.word (applied_all (record_on j n next d bs) s.word)) (sym e)
                 (subst (λ (l : List ℕ). Wrote s.count p n next d f.0 f.1 s.word (applied_all (record_on (size p n) n next d l) s.word)) (sym f.2)
-                (record_on_wrote s.count p n next d f.0 f.1 s.word (suited_so f.0 f.1 f.2))),
+                (sound_when_done s.count p n next d f.0 f.1 s.word (suited_so f.0 f.1 f.2))),
           )
 
       pub write_decided : (q : ℕ) → q ≡ size p n

@@ -19,7 +19,7 @@ use Rattle.layout.specs.Sizes.{Sizes, numbers, size, blocks_of}
 use Rattle.layout.specs.Fields.{serial}
 use Rattle.layout.specs.Records.{value, newest}
 use Rattle.layout.specs.States.{is_half_erased, state, counted}
-use Rattle.writing.specs.Sized.{record_on}
+use Rattle.writing.specs.Writing.{record_on}
 use Rattle.choice.specs.declared.group.Groups.{Groups}
 use Rattle.choice.specs.Choosing.{free_blocks, erasable, group_of, is_first, format_order}
 use Rattle.choice.specs.Tables.{group_in}

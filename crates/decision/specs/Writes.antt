@@ -6,7 +6,7 @@ use Rattle.std.specs.Prelude.{◌≡◌, ℕ, ◌+◌, cond, List, ◌∷◌, So
 use Rattle.flash.specs.State.{Memory}
 use Rattle.layout.specs.Sizes.{Sizes, size, blocks_of}
 use Rattle.records.specs.declared.head.Head.{Head}
-use Rattle.survey.specs.declared.table.Counts.{Counts}
+use Rattle.records.specs.declared.table.Counts.{Counts}
 use Rattle.writing.specs.Law.{Wrote}
 use Rattle.choice.specs.Choosing.{free_blocks}
 use Rattle.decision.specs.declared.fault.UnitCause.TheVariants.{EraseFirst, Full}

@@ -1,10 +1,11 @@
 //! Faults of a unit: its own refusals, and those of its flash, which pass upward whole.
 ghost use Rattle.std.specs.Prelude.{◌≡◌};
 ghost use Rattle.decision.specs.declared.fault.UnitFault.TheVariants.{Own as OwnFault, Flash as FlashFaulted};
-ghost use Rattle.decision.specs.Faults.{unit_number, unit_seen};
+ghost use Rattle.decision.specs.Faults.{unit_number, unit_seen, copy_refused};
 
-use flash::BlockNumber;
+use flash::Place;
 use flash::fault::{FlashFault, Layer, Report};
+use values::CopyFault;
 
 /// Why a unit refused.
 #[derive(Clone, Copy, PartialEq, Eq, Debug)]
@@ -29,12 +30,12 @@ pub enum UnitCause {
     NothingToErase = 13,
 }
 
-impl UnitCause {
-    /// The number that a caller sees.
-    pub fn number(self) -> u8
-        ensures { result ≡ unit_number self }
-    {
-        self as u8
+/// The number that a caller sees.
+impl From<UnitCause> for u8 {
+    ghost from_gives = { λ cause n. n ≡ unit_number cause };
+
+    fn from(cause: UnitCause) -> u8 {
+        cause as u8
     }
 }
 
@@ -45,20 +46,19 @@ pub enum UnitFault {
     Flash(FlashFault),
 }
 
-impl UnitFault {
-    /// What a caller sees of it.
-    pub fn report(self) -> Report
-        ensures { result ≡ unit_seen self }
-    {
-        match self {
+/// What a caller sees of it.
+impl From<UnitFault> for Report {
+    ghost from_gives = { λ fault report. report ≡ unit_seen fault };
+
+    fn from(fault: UnitFault) -> Report {
+        match fault {
             UnitFault::Own(cause) => Report {
-                number: cause.number(),
+                number: cause.into(),
                 layer: Layer::Unit,
                 kind: 0,
-                block: BlockNumber(0),
-                word: 0,
+                place: Place::NONE,
             },
-            UnitFault::Flash(fault) => fault.report(),
+            UnitFault::Flash(fault) => fault.into(),
         }
     }
 }
@@ -76,5 +76,17 @@ impl From<UnitCause> for UnitFault {
 
     fn from(cause: UnitCause) -> UnitFault {
         UnitFault::Own(cause)
+    }
+}
+
+impl From<CopyFault> for UnitFault {
+    ghost from_gives = { λ fault r. r ≡ copy_refused fault };
+
+    fn from(fault: CopyFault) -> UnitFault {
+        match fault {
+            CopyFault::NoValue => UnitFault::Own(UnitCause::NoValue),
+            CopyFault::TooShort => UnitFault::Own(UnitCause::WrongLength),
+            CopyFault::Flash(fault) => UnitFault::Flash(fault),
+        }
     }
 }

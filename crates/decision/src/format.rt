@@ -1,5 +1,4 @@
 //! What a format decides: in which order it clears the blocks.
-ghost use Rattle.layout.specs.Plans.{sizes_of};
 ghost use Rattle.decision.specs.Calls.{Formats};
 
 use crate::fault::{UnitCause, UnitFault};
@@ -7,27 +6,22 @@ use bar::Bar;
 use choice::group::Groups;
 use choice::group::grouping::group_blocks;
 use flash::Flash;
-use layout::plan::Plan;
+use records::store::Store;
 use survey::table::pass::look_over;
 
 /// The code that a format asks for.
 pub const FORMAT_CODE: u8 = 170;
 
 /// The groups in which a format clears the blocks.
-pub fn decide_format<F: Flash>(
-    flash: &F,
-    plan: &Plan,
-    code: u8,
-    bar: &Bar,
-) -> Result<Groups, UnitFault>
-    ensures { Formats (sizes_of plan.now) code bar.now F.model.kind (F.model.meaning flash.now) result }
+pub fn decide_format<F: Flash>(store: &Store<F>, code: u8, bar: &Bar) -> Result<Groups, UnitFault>
+    ensures { Formats store.now.plan.now code bar.now F.model.kind (F.model.meaning store.now.flash.now) result }
 {
     if code != FORMAT_CODE {
-        return Err(UnitFault::Own(UnitCause::WrongCode));
+        return Err(UnitCause::WrongCode.into());
     }
     if bar.changes {
-        return Err(UnitFault::Own(UnitCause::Barred));
+        return Err(UnitCause::Barred.into());
     }
-    let seen = look_over(flash, plan)?;
-    Ok(group_blocks(&seen, plan))
+    let seen = look_over(store)?;
+    Ok(group_blocks(&seen, store.plan))
 }

@@ -29,7 +29,7 @@ layer_number OfCommand = 3
 
 -- a fault names its cause, the kind number of the flash called, and the place
 abbrev pub fault : Cause → ℕ → ℕ → ℕ → FlashFault
-fault c k b w = record { cause = c; kind = k; block = record { 0 = b }; word = w }
+fault c k b w = record { cause = c; kind = k; place = record { block = record { 0 = b }; word = w } }
 
 -- power found off: block 0 and word 0 stand for no place
 abbrev pub unpowered : ℕ → FlashFault
@@ -37,7 +37,7 @@ unpowered k = fault Power k 0 0
 
 -- its number, the layer of flashes, its kind number and its place
 abbrev pub seen : FlashFault → Report
-seen f = record { number = cause_number f.cause; layer = Flash; kind = f.kind; block = f.block; word = f.word }
+seen f = record { number = cause_number f.cause; layer = Flash; kind = f.kind; place = f.place }
 
 -- a fault of the flash below has the cause that it had there, and the kind number and the place of the flash above
 abbrev pub raised : {X : Type 0} → ℕ → ℕ → ℕ → Result X FlashFault → Result X FlashFault

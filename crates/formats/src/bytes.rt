@@ -23,11 +23,7 @@ pub(crate) fn set_four(memory: &mut [u8], at: usize, value: u32)
     requires { at + 4 ≤ length memory.old }
     ensures { memory.new ≡ put_four memory.old at value }
 {
-    let [a, b, c, d] = value.to_le_bytes();
-    memory[at] = a;
-    memory[at + 1] = b;
-    memory[at + 2] = c;
-    memory[at + 3] = d;
+    memory[at..at + 4].copy_from_slice(&value.to_le_bytes());
 }
 
 // Sets bit `k` of a byte to 1 or 0.

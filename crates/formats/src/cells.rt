@@ -1,39 +1,45 @@
 //! Kind 2, cells: five bytes a word, of which the first says whether it is written.
-ghost use Rattle.formats.specs.Cells.{cells};
+ghost use Rattle.std.specs.Prelude.{◌≡◌, cond, Some, None, refl};
+ghost use Rattle.std.proofs.Common.{lit<};
+ghost use Rattle.formats.specs.Forms.{is_inside};
+ghost use Rattle.formats.specs.Cells.{cells, cell_at};
 ghost use Rattle.formats.specs.CellsLaw.{cells_lawful};
 
 use crate::bytes;
-use crate::format::{Format, blocks_of};
+use crate::format::Format;
 use flash::BlockNumber;
-
-// 16 words of five bytes.
-const BLOCK_SIZE: usize = 80;
 
 /// The format of cells.
 #[derive(Clone, Copy)]
 pub struct CellsFormat;
 
+// Where the five bytes of a word begin, if the memory has it.
+fn cell(memory: &[u8], block: BlockNumber, word: u8) -> Option<usize>
+    ensures { result ≡ cond (is_inside cells memory.now block.0 word) (Some (cell_at block.0 word)) None }
+{
+    CellsFormat::has_word(memory, block, word).then_some(80 * block.0 as usize + 5 * word as usize)
+}
+
 impl Format for CellsFormat {
     const KIND: u8 = 2;
 
+    ghost KIND = { 2 };
+
+    // 16 words of five bytes
+    const BLOCK_SIZE: usize = 80;
+
+    ghost BLOCK_SIZE = { 80 };
+
     ghost form = { cells };
+
+    ghost kind = { refl };
+
+    ghost size = { (refl, lit< tt) };
 
     ghost lawful = { cells_lawful };
 
-    fn kind_number() -> u8 {
-        Self::KIND
-    }
-
-    fn block_size() -> usize {
-        BLOCK_SIZE
-    }
-
     fn word(memory: &[u8], block: BlockNumber, word: u8) -> Option<u32> {
-        let blocks = blocks_of(BLOCK_SIZE, memory.len());
-        if block.0 >= blocks || word > 15 {
-            return None;
-        }
-        let at = 80 * block.0 as usize + 5 * word as usize;
+        let at = cell(memory, block, word)?;
         if memory[at] == 0xFF {
             None
         } else {
@@ -42,11 +48,9 @@ impl Format for CellsFormat {
     }
 
     fn put(memory: &mut [u8], block: BlockNumber, word: u8, value: Option<u32>) {
-        let blocks = blocks_of(BLOCK_SIZE, memory.len());
-        if block.0 >= blocks || word > 15 {
+        let Some(at) = cell(memory, block, word) else {
             return;
-        }
-        let at = 80 * block.0 as usize + 5 * word as usize;
+        };
         match value {
             Some(v) => {
                 memory[at] = 0;

@@ -2,15 +2,14 @@
 ghost use Rattle.std.specs.Prelude.{◌≡◌};
 ghost use Rattle.house.specs.Letters.{letter_of};
 
-use crate::refused;
 use flash::{BlockNumber, Flash};
-use layout::plan::Plan;
 use layout::state::BlockState;
+use records::store::Store;
 use std::io;
+use survey::table::Survey;
 use survey::table::pass::survey;
-use survey::table::{Counts, Survey};
 
-// The letter of a state.
+// The letter of a state. A function, since `BlockState` and `char` are of other crates, so no `From` can stand here.
 fn letter(state: BlockState) -> char
     ensures { result ≡ letter_of state }
 {
@@ -34,24 +33,11 @@ fn print_letters(rt: &HostRuntime, survey: &Survey, count: u16) -> io::Result<()
     println!(rt; "")
 }
 
-fn print_counts(rt: &HostRuntime, counts: Counts) -> io::Result<()> {
-    let Counts {
-        live,
-        free,
-        half_erased,
-        spent,
-    } = counts;
-    println!(rt; "{live} live, {free} free, {half_erased} half erased, {spent} spent")
-}
-
 /// Prints the states of the blocks and their counts.
-pub(crate) fn print_all<F: Flash>(rt: &HostRuntime, flash: &F, plan: &Plan) -> anyhow::Result<()> {
-    match survey(flash, plan) {
-        Ok(survey) => {
-            print_letters(rt, &survey, flash.block_count())?;
-            print_counts(rt, survey.counts())?;
-            Ok(())
-        }
-        Err(fault) => Err(refused(fault.report())),
-    }
+pub(crate) fn print_all<F: Flash>(rt: &HostRuntime, store: &Store<F>) -> anyhow::Result<()> {
+    let survey = survey(store)?;
+    print_letters(rt, &survey, store.flash.block_count())?;
+    let counts = survey.counts();
+    println!(rt; "{counts}")?;
+    Ok(())
 }

@@ -1,15 +1,12 @@
 -- The current record of a number is its sound first block of highest serial, ties to the lower block.
 use Rattle.std.proofs.Common.{◌≡◌, ℕ, zero, suc, ◌<◌, ◌≤◌, Bool, true, false, cond, ltb, ◌⊎◌, Some, None, Option, sym, refl, ◌∙◌, subst, inl, inr, arith}
-use Rattle.std.proofs.lemmas.Bool.{cases_lt, cases_Bool, ltb-true, ltb-false}
+use Rattle.std.proofs.lemmas.Bool.{cases_lt, cases_Bool, ltb-true, ltb-false, true≢false}
 use Rattle.std.proofs.lemmas.Bool.Decides.{nat_tests}
 use Rattle.flash.specs.State.{Memory}
 use Rattle.layout.specs.Sizes.{Sizes}
 use Rattle.layout.specs.Fields.{serial}
 use Rattle.layout.specs.Sound.{sound}
 use Rattle.layout.specs.Records.{better, best, current, Current}
-
-true≢false : true ≡ false → ⊥
-true≢false h = let z : ◌≡◌ {A = ℕ} 0 1 = cc in omega arith
 
 -- block c is no better than block a
 abbrev Behind : Memory → ℕ → ℕ → Type 0

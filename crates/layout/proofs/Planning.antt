@@ -1,27 +1,28 @@
--- The sizes of a plan are the front of its table.
-use Rattle.std.proofs.Common.{◌≡◌, ℕ, ◌<◌, ◌≤◌, List, length, get_or, take, sym, ◌∙◌, arith}
-use Rattle.std.proofs.lemmas.List.{length-take-le, get_or-take, ext_get_or}
-use Rattle.layout.specs.Sizes.{Planned, numbers, size}
+-- The table of a plan that is made, and what one of no plan has.
+use Rattle.std.proofs.Common.{◌≡◌, ℕ, ◌<◌, ◌≤◌, ◌⊎◌, ◌++◌, length, take, drop, replicate, sym, ap, arith}
+use Rattle.std.specs.List.{HoldsAt}
+use Rattle.std.proofs.lemmas.List.{drop-replicate}
+use Rattle.std.proofs.Math.Seq.{take-append_seam}
+use Rattle.layout.specs.Sizes.{Sizes, Planned}
+use Rattle.layout.specs.Plans.{IsWhole}
 
-abbrev Ranged : ℕ → List ℕ → Type 0
-Ranged c xs = (n : ℕ) → n < c → (1 ≤ get_or xs n 0) × (get_or xs n 0 ≤ 1024)
+-- sizes that are planned, put at the front of a table of 0
+pub whole : (p q : Sizes) → q ≡ p → Planned p → IsWhole (record { sizes = q ++ drop (length p) (replicate 64 0); count = length p })
+whole p q e planned = rw e (record {
+  planned = rw seam planned;
+  counted = ap length seam;
+  rest = rw seam (ap (λ t. p ++ t) (sym (drop-replicate (length p) 64 0)));
+})
+  where
+    seam : take (length p) (p ++ drop (length p) (replicate 64 0)) ≡ p
+    seam = take-append_seam p (drop (length p) (replicate 64 0))
 
-module _ (xs : List ℕ) (c : ℕ) (whole : length xs ≡ 64) (few : c ≤ 64) where
-  pub front_numbers : numbers (take c xs) ≡ c
-  front_numbers = length-take-le c xs (omega arith)
+abbrev pub IsSize : ℕ → Type 0
+IsSize s = (1 ≤ s) × (s ≤ 1024)
 
-  pub front_few : numbers (take c xs) ≤ 64
-  front_few = omega (arith, front_numbers)
+abbrev pub IsNoSize : ℕ → Type 0
+IsNoSize s = (s < 1) ⊎ (1024 < s)
 
-  pub front_size : (n : ℕ) → n < c → size (take c xs) n ≡ get_or xs n 0
-  front_size n h = get_or-take c xs n 0 h
-
-  pub front_planned : 1 ≤ c → Ranged c xs → Planned (take c xs)
-  front_planned some sized = record {
-    some = omega (arith, front_numbers);
-    few = omega (arith, front_numbers);
-    sized = λ n h. let l : n < c = omega (arith, front_numbers) in rw (front_size n l) (sized n l);
-  }
-
-  pub front_same : (ys : List ℕ) → length ys ≡ c → ((n : ℕ) → n < c → get_or xs n 0 ≡ get_or ys n 0) → take c xs ≡ ys
-  front_same ys l h = ext_get_or 0 (take c xs) ys (front_numbers ∙ sym l) (λ n k. let k' : n < c = omega (arith, front_numbers) in front_size n k' ∙ h n k')
+-- sizes of which one is out of range are not planned
+pub not_planned : (p : Sizes) → (k : ℕ) × (k < length p) × HoldsAt IsNoSize p k → Planned p → ⊥
+not_planned p out planned = let size = planned.sized out.0 out.1 in let none = out.2 0 in omega arith

@@ -7,6 +7,7 @@
 --     written, blank     what a word is
 use Rattle.std.specs.Prelude.{ℕ, zero, suc, ◌+◌, ◌-◌, ◌*◌, ◌/◌, ◌%◌, ◌^◌, Bool, true, false, not, ◌&&◌, List, map, Some, None, Option}
 use Rattle.std.specs.List.{range_with_len}
+use Rattle.std.specs.Option.{unwrap_or}
 use Rattle.flash.specs.State.{Words}
 
 -- the low byte is byte 0
@@ -15,8 +16,7 @@ low x k = x / 256 ^ k % 256
 
 -- the number in a word, 0 where it is blank
 abbrev pub held : Option ℕ → ℕ
-held None = 0
-held (Some v) = v
+held o = unwrap_or o 0
 
 -- word w holds bytes 4 × w to 4 × w + 3
 unfoldable pub byte : Words → ℕ → ℕ

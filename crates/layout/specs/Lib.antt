@@ -6,4 +6,5 @@ pub mod Sound
 pub mod Records
 pub mod States
 pub mod Plans
+pub mod Refused
 pub mod Reads

@@ -1,18 +1,29 @@
--- What a plan means, and what a caller sees of a plan that cannot be made.
---     sizes_of plan      the size of each data number
---     plan_seen f        what a caller sees of the refusal
-use Rattle.std.specs.Prelude.{take}
-use Rattle.flash.specs.declared.fault.Report.{Report}
-use Rattle.flash.specs.declared.fault.Layer.TheVariants.{Unit as OfUnit}
-use Rattle.layout.specs.declared.plan.Plan.{Plan}
-use Rattle.layout.specs.declared.plan.PlanFault.{PlanFault}
-use Rattle.layout.specs.declared.plan.PlanFault.TheVariants.{OutOfRange}
-use Rattle.layout.specs.Sizes.{Sizes}
+-- What a plan means: the sizes of its numbers, which stand at the front of a table of 64 whose rest is 0.
+--     front x            the sizes
+--     IsWhole x          the table is of 64, and the sizes are planned
+--     tabled p           the table of some sizes
+use Rattle.std.specs.Prelude.{◌≡◌, ℕ, ◌-◌, List, ◌++◌, length, take, replicate}
+use Rattle.layout.specs.declared.plan.Plan.TheInside.{Inside}
+use Rattle.layout.specs.Sizes.{Sizes, Planned}
 
--- the front of the table that a plan holds
-abbrev pub sizes_of : Plan → Sizes
-sizes_of plan = take plan.count plan.sizes
+-- the size of number n stands at place n of the table
+abbrev pub front : Inside → Sizes
+front x = take x.count x.sizes
 
--- number 16, of the unit's layer, with no place
-abbrev pub plan_seen : PlanFault → Report
-plan_seen OutOfRange = record { number = 16; layer = OfUnit; kind = 0; block = record { 0 = 0 }; word = 0 }
+-- what stands behind the sizes
+abbrev pub padded : Sizes → List ℕ
+padded p = p ++ replicate (64 - length p) 0
+
+-- the table of these sizes
+abbrev pub tabled : Sizes → Inside
+tabled p = record { sizes = padded p; count = length p }
+
+-- there are as many as the plan counts, and 0 stands behind them
+pub record IsWhole (x : Inside) : Type 0 where
+  pub planned : Planned (front x)
+  pub counted : length (front x) ≡ x.count
+  pub rest : padded (front x) ≡ x.sizes
+
+-- so the sizes give the table back
+pub tabled_front : (x : Inside) → IsWhole x → tabled (front x) ≡ x
+tabled_front x h = λ i. record { sizes = h.rest i; count = h.counted i }

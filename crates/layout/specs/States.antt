@@ -54,21 +54,10 @@ state count m p b = stated (is_half_erased (m b)) (clean (m b)) (in_use count m 
 -- whether two states are the same
 abbrev pub same_state : BlockState → BlockState → Bool
 same_state HalfErased HalfErased = true
-same_state HalfErased Free = false
-same_state HalfErased Live = false
-same_state HalfErased Spent = false
-same_state Free HalfErased = false
 same_state Free Free = true
-same_state Free Live = false
-same_state Free Spent = false
-same_state Live HalfErased = false
-same_state Live Free = false
 same_state Live Live = true
-same_state Live Spent = false
-same_state Spent HalfErased = false
-same_state Spent Free = false
-same_state Spent Live = false
 same_state Spent Spent = true
+same_state _ _ = false
 
 -- those of the blocks given that have a state, in their order
 abbrev pub of_state : ℕ → Memory → Sizes → BlockState → List ℕ → List ℕ

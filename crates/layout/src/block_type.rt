@@ -13,11 +13,11 @@ pub enum BlockType {
     Following = 3,
 }
 
-impl BlockType {
-    /// The byte that stands for it in a block.
-    pub fn number(self) -> u8
-        ensures { result ≡ type_number self }
-    {
-        self as u8
+/// The byte that stands for it in a block.
+impl From<BlockType> for u8 {
+    ghost from_gives = { λ t n. n ≡ type_number t };
+
+    fn from(block_type: BlockType) -> u8 {
+        block_type as u8
     }
 }

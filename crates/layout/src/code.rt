@@ -1,9 +1,10 @@
 //! The code of a record: a CRC over its number and its serial.
 ghost use Rattle.std.specs.Prelude.{◌≡◌};
-ghost use Rattle.layout.specs.Code.{crc_bit, crc_byte, code_of};
+ghost use Rattle.layout.specs.Code.{crc_bit, crc_byte, crc_from, code_of};
 
 use crate::plan::DataNumber;
 
+#[tactic(auto, using(std::proofs::lemmas::Bool::Decides::nat_tests), unfolding(crate::specs::Code::crc_bit))]
 fn crc_bit(r: u16) -> u16
     ensures { result ≡ crc_bit r }
 {
@@ -17,19 +18,20 @@ fn crc_bit(r: u16) -> u16
 fn crc_byte(r: u16, x: u8) -> u16
     ensures { result ≡ crc_byte r x }
 {
-    let mut q = r ^ (x as u16 * 256);
-    for _bit in 0..8u8 {
-        q = crc_bit(q);
-    }
-    q
+    (0..8u8).fold(r ^ (x as u16 * 256), |q, _bit| crc_bit(q))
+}
+
+fn crc_bytes(start: u16, bytes: &[u8]) -> u16
+    ensures { result ≡ crc_from start bytes.now }
+{
+    bytes.iter().fold(start, |r, x| crc_byte(r, *x))
 }
 
 /// The code of a data number and a serial.
+#[tactic(auto, using(crate::proofs::Loops::code_parts))]
 pub fn code(number: DataNumber, serial: u32) -> u16
     ensures { result ≡ code_of number.0 serial }
 {
-    let [n0, n1] = number.0.to_le_bytes();
-    let [s0, s1, s2, s3] = serial.to_le_bytes();
-    let q = crc_byte(crc_byte(0xFFFF, n0), n1);
-    crc_byte(crc_byte(crc_byte(crc_byte(q, s0), s1), s2), s3)
+    let of_number = crc_bytes(0xFFFF, &number.0.to_le_bytes());
+    crc_bytes(of_number, &serial.to_le_bytes())
 }

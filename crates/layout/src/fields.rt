@@ -1,6 +1,6 @@
 //! Reading the bytes and fields of a block from its words.
 ghost use Rattle.std.specs.Prelude.{◌≡◌};
-ghost use Rattle.layout.specs.Fields.{byte as byte_at, kind_of, chain as chain_of, number as number_of_lem, serial as serial_of, code as code_in, all_written, all_blank, written as is_written};
+ghost use Rattle.layout.specs.Fields.{byte as byte_at, kind_of, chain as chain_of, number as number_of, serial as serial_of, code as code_in, all_written, all_blank, written as is_written};
 ghost use Rattle.layout.specs.Reads.{words_of, fields_of};
 
 use crate::block::{BlockWords, FirstFields};
@@ -12,33 +12,26 @@ impl BlockWords {
     pub fn word(&self, w: u8) -> Option<u32>
         ensures { result ≡ words_of self.now w }
     {
-        if w > 15 {
-            return None;
-        }
-        self.words[w as usize]
+        *self.words.get(w as usize)?
     }
 
     /// Whether word `w` is written.
     pub fn written(&self, w: u8) -> bool
         ensures { result ≡ is_written (words_of self.now w) }
     {
-        match self.word(w) {
-            Some(_) => true,
-            None => false,
-        }
+        self.word(w).is_some()
     }
 
     /// Byte `k`, 0 where its word is blank.
+    #[tactic(auto, using(crate::proofs::Loops::low_at), unfolding(crate::specs::Fields::byte))]
     pub fn byte(&self, k: u8) -> u8
         ensures { result ≡ byte_at (words_of self.now) k }
     {
-        let Some(word) = self.word(k / 4) else {
-            return 0;
-        };
-        word.to_le_bytes()[k as usize % 4]
+        self.word(k / 4).unwrap_or(0).to_le_bytes()[k as usize % 4]
     }
 
-    /// The number of the type.
+    /// The number of the type: a byte as it was read, which may be that of no type.
+    #[tactic(auto, unfolding(crate::specs::Fields::kind_of))]
     pub fn kind(&self) -> u8
         ensures { result ≡ kind_of (words_of self.now) }
     {
@@ -46,6 +39,7 @@ impl BlockWords {
     }
 
     /// The next block of the record.
+    #[tactic(auto, unfolding(crate::specs::Fields::chain))]
     pub fn chain(&self) -> BlockNumber
         ensures { result.0 ≡ chain_of (words_of self.now) }
     {
@@ -53,13 +47,15 @@ impl BlockWords {
     }
 
     /// The data number of a first block.
+    #[tactic(auto, unfolding(crate::specs::Fields::number))]
     pub fn number(&self) -> DataNumber
-        ensures { result.0 ≡ number_of_lem (words_of self.now) }
+        ensures { result.0 ≡ number_of (words_of self.now) }
     {
         DataNumber(u16::from_le_bytes([self.byte(3), self.byte(4)]))
     }
 
     /// The serial of a first block.
+    #[tactic(auto, unfolding(crate::specs::Fields::serial))]
     pub fn serial(&self) -> u32
         ensures { result ≡ serial_of (words_of self.now) }
     {
@@ -67,6 +63,7 @@ impl BlockWords {
     }
 
     /// The code of a first block.
+    #[tactic(auto, unfolding(crate::specs::Fields::code))]
     pub fn code(&self) -> u16
         ensures { result ≡ code_in (words_of self.now) }
     {
@@ -77,10 +74,7 @@ impl BlockWords {
     pub fn fields(&self) -> Option<FirstFields>
         ensures { result ≡ fields_of (words_of self.now) }
     {
-        let (Some(_), Some(_), Some(_)) = (self.word(0), self.word(1), self.word(2)) else {
-            return None;
-        };
-        Some(FirstFields {
+        self.all_written(0, 3).then(|| FirstFields {
             kind: self.kind(),
             chain: self.chain(),
             number: self.number(),
@@ -89,27 +83,17 @@ impl BlockWords {
         })
     }
 
-    /// Whether the words from `from` up to, and not with, `to` are written.
+    /// Whether the words from `from` up to, and not with, `to` are written. That they are blank is a test of its own, by a definition of its own.
     pub fn all_written(&self, from: u8, to: u8) -> bool
         ensures { result ≡ all_written (words_of self.now) from to }
     {
-        for w in from..to {
-            if !self.written(w) {
-                return false;
-            }
-        }
-        true
+        (from..to).all(|w| self.written(w))
     }
 
-    /// Whether they are blank.
+    /// Whether the words from `from` up to, and not with, `to` are blank.
     pub fn all_blank(&self, from: u8, to: u8) -> bool
         ensures { result ≡ all_blank (words_of self.now) from to }
     {
-        for w in from..to {
-            if self.written(w) {
-                return false;
-            }
-        }
-        true
+        (from..to).all(|w| !self.written(w))
     }
 }

@@ -35,11 +35,9 @@ impl<F: Flash> Counting<F> {
 impl<F: Flash> Flash for Counting<F> {
     const KIND: u8 = F::KIND;
 
-    ghost model = { counting F.Flash.model };
+    ghost KIND = { F.Flash.KIND };
 
-    fn kind_number() -> u8 {
-        F::kind_number()
-    }
+    ghost model = { counting F.Flash.model };
 
     fn block_count(&self) -> u16 {
         self.below.block_count()
@@ -65,6 +63,10 @@ impl<F: Flash> Flash for Counting<F> {
     fn restore(&mut self, rehearsal: Rehearsal) {
         self.below.restore(rehearsal);
     }
+
+    ghost kind = { F.Flash.kind };
+
+    ghost shaped = { λ x. F.Flash.shaped x.below };
 }
 
 #[cfg(test)]
@@ -73,6 +75,7 @@ mod tests {
     use formats::format::Format;
     use layout::code::code;
     use layout::plan::{DataNumber, Plan};
+    use records::store::Store;
     use simulated::Image;
     use std::test::Fail;
     use survey::found::count_states;
@@ -113,7 +116,8 @@ mod tests {
 
     fn states(flash: &House) -> Result<Counts, Fail> {
         let plan = Plan::new(&[1024])?;
-        Ok(count_states(flash, &plan)?)
+        let store = Store { flash, plan: &plan };
+        Ok(count_states(&store)?)
     }
 
     // 255 first blocks that each lead 19 times through one following block and never back.

@@ -1,16 +1,13 @@
 //! Kind 4, a pair: the blocks of one flash followed by those of another, as one flash.
 #![tactic(auto)]
 
-ghost use Rattle.std.specs.Prelude.{◌≡◌, Ok, Err};
-ghost use Rattle.flash.specs.Faults.{fault};
-ghost use Rattle.flash.specs.State.{Shaped};
+ghost use Rattle.std.specs.Prelude.{◌≡◌, Ok, refl};
 ghost use Rattle.flash.specs.Commands.{allowed};
 ghost use Rattle.pair.specs.Pairs.{pair_count, pair_state, side, joined, pair_check};
+ghost use Rattle.pair.specs.PairShape.{pair_shaped};
 
 use flash::fault::{Cause, FlashFault, raise};
-use flash::{BlockNumber, Flash, Rehearsal};
-
-const PAIR: u8 = 4;
+use flash::{BlockNumber, Flash, Place, Rehearsal};
 
 /// The blocks of the first flash, followed by those of the second.
 #[derive(Drop)]
@@ -32,7 +29,7 @@ impl<A: Flash, B: Flash> Pair<A, B> {
         ensures { result ≡ pair_check (A.Flash.model.meaning first.now) (B.Flash.model.meaning second.now) }
     {
         if first.block_count() + second.block_count() > 256 {
-            return Err(refusal(Cause::Making, BlockNumber(0), 0));
+            return Err(FlashFault::new(Cause::Making, Self::KIND, Place::NONE));
         }
         Ok(())
     }
@@ -52,27 +49,11 @@ impl<A: Flash, B: Flash> Pair<A, B> {
         (first, second)
     }
 
-    fn size(&self) -> u16
-        ensures count { result ≡ pair_count (A.Flash.model.meaning self.now.first) (B.Flash.model.meaning self.now.second) }
-        ensures shapes { Shaped (A.Flash.model.meaning self.now.first) × Shaped (B.Flash.model.meaning self.now.second) }
-    {
-        let blocks = self.first.block_count() + self.second.block_count();
-        if blocks > 256 { 0 } else { blocks }
-    }
-
     // The flash and the block of it, unless the place is refused.
     fn admit(&self, block: BlockNumber, word: u8) -> Result<Side, FlashFault>
-        ensures { result ≡ allowed 4 (pair_state (A.Flash.model.meaning self.now.first) (B.Flash.model.meaning self.now.second)) block.0 word (Ok (side (A.Flash.model.meaning self.now.first).count block.0)) }
+        ensures { let s = A.Flash.model.meaning self.now.first in result ≡ allowed 4 (pair_state s (B.Flash.model.meaning self.now.second)) block.0 word (Ok (side s.count block.0)) }
     {
-        if !self.first.has_power() || !self.second.has_power() {
-            return Err(refusal(Cause::Power, BlockNumber(0), 0));
-        }
-        if block.0 >= self.size() {
-            return Err(refusal(Cause::Block, block, word));
-        }
-        if word > 15 {
-            return Err(refusal(Cause::Word, block, word));
-        }
+        self.reach(block, word)?;
         let border = self.first.block_count();
         if block.0 < border {
             return Ok(Side::First(block));
@@ -81,29 +62,18 @@ impl<A: Flash, B: Flash> Pair<A, B> {
     }
 }
 
-// A fault of a pair.
-fn refusal(cause: Cause, block: BlockNumber, word: u8) -> FlashFault
-    ensures { result ≡ fault cause 4 block.0 word }
-{
-    FlashFault {
-        cause,
-        kind: PAIR,
-        block,
-        word,
-    }
-}
-
 impl<A: Flash, B: Flash> Flash for Pair<A, B> {
-    const KIND: u8 = PAIR;
+    const KIND: u8 = 4;
+
+    ghost KIND = { 4 };
 
     ghost model = { joined A.Flash.model B.Flash.model };
 
-    fn kind_number() -> u8 {
-        PAIR
-    }
-
     fn block_count(&self) -> u16 {
-        self.size()
+        if Self::check(&self.first, &self.second).is_err() {
+            return 0;
+        }
+        self.first.block_count() + self.second.block_count()
     }
 
     fn has_power(&self) -> bool {
@@ -115,20 +85,22 @@ impl<A: Flash, B: Flash> Flash for Pair<A, B> {
             Side::First(at) => self.first.look(at, word),
             Side::Second(at) => self.second.look(at, word),
         };
-        raise(found, PAIR, block, word)
+        raise(found, Self::KIND, Place { block, word })
     }
 
     fn program(&mut self, block: BlockNumber, word: u8, value: u32) -> Result<(), FlashFault> {
+        let place = Place { block, word };
         match self.admit(block, word)? {
-            Side::First(at) => raise(self.first.program(at, word, value), PAIR, block, word),
-            Side::Second(at) => raise(self.second.program(at, word, value), PAIR, block, word),
+            Side::First(at) => raise(self.first.program(at, word, value), Self::KIND, place),
+            Side::Second(at) => raise(self.second.program(at, word, value), Self::KIND, place),
         }
     }
 
     fn erase(&mut self, block: BlockNumber) -> Result<(), FlashFault> {
+        let place = Place { block, word: 0 };
         match self.admit(block, 0)? {
-            Side::First(at) => raise(self.first.erase(at), PAIR, block, 0),
-            Side::Second(at) => raise(self.second.erase(at), PAIR, block, 0),
+            Side::First(at) => raise(self.first.erase(at), Self::KIND, place),
+            Side::Second(at) => raise(self.second.erase(at), Self::KIND, place),
         }
     }
 
@@ -136,4 +108,8 @@ impl<A: Flash, B: Flash> Flash for Pair<A, B> {
         self.first.restore(rehearsal);
         self.second.restore(rehearsal);
     }
+
+    ghost kind = { refl };
+
+    ghost shaped = { λ x. pair_shaped _ _ (A.Flash.shaped x.first) (B.Flash.shaped x.second) };
 }

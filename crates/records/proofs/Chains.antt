@@ -1,25 +1,16 @@
 -- A walk along a chain that has come to following block j, at c.
-use Rattle.std.proofs.Common.{◌≡◌, ℕ, ◌+◌, ◌-◌, ◌<◌, ◌≤◌, Bool, true, false, ◌&&◌, eqb, ltb, length, sym, refl, ap, ◌∙◌, add-one, arith}
+use Rattle.std.proofs.Common.{◌≡◌, ℕ, ◌+◌, ◌-◌, ◌<◌, ◌≤◌, Bool, true, false, ◌&&◌, ltb, length, sym, refl, ap, ◌∙◌, add-one, arith}
 use Rattle.std.proofs.lemmas.Bool.{and_parts, lt-ltb, le-ltb}
 use Rattle.std.proofs.lemmas.Bool.Decides.{nat_tests}
 use Rattle.flash.specs.State.{Words, Memory}
 use Rattle.layout.specs.Sizes.{Sizes, size, followers}
 use Rattle.layout.specs.Fields.{chain}
 use Rattle.layout.specs.Sound.{candidate, coded, follows, leads, sound}
-use Rattle.layout.proofs.Loops.{left_suc, left_none}
+use Rattle.layout.proofs.Loops.{left_suc}
 
 module _ (count : ℕ) (m : Memory) (s b j n c : ℕ) (a : Bool) (h : a ≡ leads count m s b j c (n - j)) where
   more : j < n → a ≡ (ltb c count && follows s j (m c) && leads count m s b (j + 1) (chain (m c)) (n - (j + 1)))
   more l = h ∙ rw (left_suc j n l, add-one j) refl
-
-  pub walk_out : j < n → count ≤ c → false ≡ a
-  walk_out l o = let e : ltb c count ≡ false = le-ltb c count o in sym (more l ∙ rw e refl)
-
-  pub walk_stop : (w : Words) → j < n → c < count → w ≡ m c → false ≡ follows s j w → false ≡ a
-  walk_stop w l o e f =
-      let t : ltb c count ≡ true = lt-ltb c count o in
-      let g : follows s j (m c) ≡ false = ap (follows s j) (sym e) ∙ sym f in
-      sym (more l ∙ rw (t, g) refl)
 
   pub walk_on : (w : Words) (d : ℕ) → j < n → c < count → w ≡ m c → true ≡ follows s j w → d ≡ chain w → a ≡ leads count m s b (j + 1) d (n - (j + 1))
   walk_on w d l o e f q =
@@ -27,9 +18,6 @@ module _ (count : ℕ) (m : Memory) (s b j n c : ℕ) (a : Bool) (h : a ≡ lead
       let g : follows s j (m c) ≡ true = ap (follows s j) (sym e) ∙ sym f in
       let r : chain (m c) ≡ d = sym (q ∙ ap chain e) in
       more l ∙ rw (t, g, r) refl
-
-  pub walk_end : n ≤ j → a ≡ eqb c b
-  walk_end l = h ∙ rw (left_none j n l) refl
 
 -- a block that is not below the count, or fails the check of its own words, is not sound
 pub beyond_unsound : (count : ℕ) (m : Memory) (p : Sizes) (n b : ℕ) → count ≤ b → false ≡ sound count m p n b

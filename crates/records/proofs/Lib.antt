@@ -5,3 +5,4 @@ pub mod Owners
 pub mod Headed
 pub mod Erased
 pub mod Stood
+pub mod Tallies

@@ -52,16 +52,9 @@ pub not_owned : (count : ℕ) (m : Memory) (p : Sizes) (b : ℕ) → None ≡ ow
 unfolding owner
 not_owned count m p b h = left_out (sound count m p (number (m b)) b) _ h
 
-pub sound_below : (count : ℕ) (m : Memory) (p : Sizes) (n b : ℕ) → sound count m p n b ≡ true → n < length p
-unfolding sound candidate
-sound_below count m p n b h = grind (arith, nat_tests)
-
 pub sound_number : (count : ℕ) (m : Memory) (p : Sizes) (n b : ℕ) → sound count m p n b ≡ true → number (m b) ≡ n
 unfolding sound candidate
 sound_number count m p n b h = grind (arith, nat_tests)
-
-pub owned_below : (count : ℕ) (m : Memory) (p : Sizes) (b : ℕ) (o : Owned) → Some o ≡ owner count m p b → o.number.0 < length p
-owned_below count m p b o h = let r = owned count m p b o h in let l = sound_below count m p (number (m b)) b r.0 in rw r.1 l
 
 other_unsound : (count : ℕ) (m : Memory) (p : Sizes) (n b : ℕ) → (n ≡ number (m b) → ⊥) → sound count m p n b ≡ false
 other_unsound count m p n b ne = elim (cases_Bool (sound count m p n b)) [ inl h ↦ absurd (ne (sym (sound_number count m p n b h))) | inr h ↦ h ]
@@ -82,13 +75,13 @@ prefers : (m : Memory) (b : ℕ) (o : Option ℕ) → preferred (headed m o) (he
 prefers m b None = refl
 prefers m b (Some c) = elim (ltb (serial (m c)) (serial (m b))) as (λ x. cond x (Some (head_at m b)) (Some (head_at m c)) ≡ headed m (cond x (Some b) (Some c))) [ true ↦ refl | false ↦ refl ]
 
-enter : (count : ℕ) (m : Memory) (p : Sizes) (b : ℕ) (es : List (Option Head)) (o : Owned) → length p ≤ 64 → length es ≡ 64
+enter : (count : ℕ) (m : Memory) (p : Sizes) (b : ℕ) (es : List (Option Head)) (o : Owned) → o.number.0 < 64 → length es ≡ 64
     → Under count m p b es → Some o ≡ owner count m p b → Under count m p (b + 1) (entered es (Some o))
-enter count m p b es o lp lt h w n =
+enter count m p b es o few lt h w n =
     let r = owned count m p b o w in
     let k : o.number.0 ≡ number (m b) = ap (λ (x : Owned). x.number.0) r.1 in
     let d : o.head ≡ head_at m b = ap (λ (x : Owned). x.head) r.1 in
-    let below : o.number.0 < length es = omega (arith, owned_below count m p b o w) in
+    let below : o.number.0 < length es = omega arith in
     elim (cases_eq n o.number.0) [
       | inl q ↦ rw q (get_or-set_same es o.number.0 _ None below
           ∙ ap (λ x. preferred x o.head) (h o.number.0) ∙ ap (preferred (headed m (best (sound count m p o.number.0) m b))) d ∙ prefers m b _
@@ -96,24 +89,27 @@ enter count m p b es o lp lt h w n =
       | inr q ↦ get_or-set_other es o.number.0 n _ None q ∙ h n ∙ ap (headed m) (sym (step count m p n b false (other_unsound count m p n b (λ z. q (z ∙ sym k)))))
     ]
 
-table_on : (count : ℕ) (m : Memory) (p : Sizes) (b : ℕ) (es : List (Option Head)) (o : Option Owned) → length p ≤ 64 → (length es ≡ 64) × Under count m p b es
+table_on : (count : ℕ) (m : Memory) (p : Sizes) (b : ℕ) (es : List (Option Head)) (o : Option Owned) → IfSome o (λ x. x.number.0 < 64) → (length es ≡ 64) × Under count m p b es
     → o ≡ owner count m p b → (length (entered es o) ≡ 64) × Under count m p (b + 1) (entered es o)
-table_on count m p b es None lp h w = (h.0, keep count m p b es h.1 w)
-table_on count m p b es (Some o) lp h w = (length-set es _ _ ∙ h.0, enter count m p b es o lp h.0 h.1 w)
+table_on count m p b es None few h w = (h.0, keep count m p b es h.1 w)
+table_on count m p b es (Some o) few h w = (length-set es _ _ ∙ h.0, enter count m p b es o few h.0 h.1 w)
+
+-- every entry of a table that was just made is the same
+pub all_same : {X : Type 0} (x : X) (k n : ℕ) → get_or (replicate k x) n x ≡ x
+all_same x k n = elim (cases_lt n k) [ inl l ↦ get_or-replicate k n x x l | inr l ↦ get_or_past (replicate k x) n x (omega (arith, length-replicate k x)) ]
 
 -- the table of the blocks below b
 abbrev pub Table : ℕ → Memory → Sizes → ℕ → Heads → Type 0
 Table count m p b t = (length t.entries ≡ 64) × Under count m p b t.entries
 
-pub table_more : (count : ℕ) (m : Memory) (p : Sizes) (b : ℕ) (t u : Heads) (o : Option Owned) → length p ≤ 64 → Table count m p b t
-    → o ≡ owner count m p b → u.entries ≡ entered t.entries o → Table count m p (b + 1) u
-table_more count m p b t u o lp h w e =
-    let r = table_on count m p b t.entries o lp h w in
-    subst (λ (es : List (Option Head)). (length es ≡ 64) × Under count m p (b + 1) es) (sym e) r
+pub table_none : (count : ℕ) (m : Memory) (p : Sizes) (t : Heads) → t.entries ≡ replicate 64 None → Table count m p 0 t
+table_none count m p t e = (ap length e ∙ length-replicate {A = Option Head} 64 None, λ n. ap (λ (es : List (Option Head)). get_or es n None) e ∙ all_same None 64 n)
 
-pub below_all : (count : ℕ) (m : Memory) (p : Sizes) (b : ℕ) (o : Option Owned) → length p ≤ 64 → o ≡ owner count m p b → IfSome o (λ x. x.number.0 < 64)
-below_all count m p b None lp w = tt
-below_all count m p b (Some o) lp w = omega (arith, owned_below count m p b o w)
+pub table_more : (count : ℕ) (m : Memory) (p : Sizes) (b : ℕ) (t u : Heads) (o : Option Owned) → IfSome o (λ x. x.number.0 < 64) → Table count m p b t
+    → o ≡ owner count m p b → u.entries ≡ entered t.entries o → Table count m p (b + 1) u
+table_more count m p b t u o few h w e =
+    let r = table_on count m p b t.entries o few h w in
+    subst (λ (es : List (Option Head)). (length es ≡ 64) × Under count m p (b + 1) es) (sym e) r
 
 entry_in : (t : Heads) (n : ℕ) → length t.entries ≡ 64 → head_in t n ≡ get_or t.entries n None
 entry_in t n l = elim (cases_lt n 64) [
@@ -124,6 +120,3 @@ entry_in t n l = elim (cases_lt n 64) [
 pub table_all : (count : ℕ) (m : Memory) (p : Sizes) (b : ℕ) (t : Heads) → b ≡ count → Table count m p b t → Tabled count m p t
 unfolding current
 table_all count m p b t e h n = entry_in t n h.0 ∙ h.1 n ∙ ap (λ k. headed m (best (sound count m p n) m k)) e
-
-pub all_same : {X : Type 0} (x : X) (k n : ℕ) → get_or (replicate k x) n x ≡ x
-all_same x k n = elim (cases_lt n k) [ inl l ↦ get_or-replicate k n x x l | inr l ↦ get_or_past (replicate k x) n x (omega (arith, length-replicate k x)) ]

@@ -3,7 +3,7 @@
 --     standing_of count m b  the state of block b, if no record had it
 --     Scans k s p r          the answer r has both, or is the flash's own fault where power is off
 --     Finds k s p r          the answer r is such a table, or the flash's own fault where power is off
-use Rattle.std.specs.Prelude.{◌≡◌, ℕ, true, false, cond, Some, None, Ok, Err, Option, Result, nat_lt, slice_index_or}
+use Rattle.std.specs.Prelude.{◌≡◌, ℕ, true, false, cond, Some, None, Ok, Err, Option, Result, nat_lt}
 use Rattle.flash.specs.declared.fault.FlashFault.{FlashFault}
 use Rattle.flash.specs.Faults.{unpowered}
 use Rattle.flash.specs.State.{State, Words, Memory}
@@ -14,6 +14,7 @@ use Rattle.layout.specs.States.{is_half_erased, clean, stated}
 use Rattle.records.specs.declared.head.Heads.{Heads}
 use Rattle.records.specs.declared.head.Scan.{Scan}
 use Rattle.records.specs.Heads.{headed, head_in}
+use Rattle.records.specs.Entries.{entry_in}
 
 -- none for a number without a current record, and for one that the plan has not
 abbrev pub Tabled : ℕ → Memory → Sizes → Heads → Type 0
@@ -30,7 +31,7 @@ standing u = stated (is_half_erased u) (clean u) false
 
 -- the table has 256
 abbrev pub standing_in : Scan → ℕ → Option BlockState
-standing_in t b = cond (nat_lt b 256) (slice_index_or t.standings b None) None
+standing_in t b = entry_in t.standings b
 
 -- a block at or above the count stands for nothing
 abbrev pub standing_of : ℕ → Memory → ℕ → Option BlockState

@@ -9,7 +9,7 @@ use layout::state::BlockState;
 
 /// The state of a block, from its words and whether a current record has it.
 pub fn state_of(block: &BlockWords, in_use: bool) -> BlockState
-    ensures { result ≡ stated (is_half_erased (words_of block.now)) (clean (words_of block.now)) in_use }
+    ensures { let m = words_of block.now in result ≡ stated (is_half_erased m) (clean m) in_use }
 {
     match (block.word(ERASE_START), block.word(ERASE_END)) {
         (None, Some(_)) if block.all_blank(0, ERASE_END) => BlockState::Free,

@@ -3,7 +3,7 @@
 #![tactic(auto)]
 
 use anyhow::anyhow;
-use flash::fault::FlashFault;
+use flash::fault::{FlashFault, Report};
 use flash::{BlockNumber, Flash, Rehearsal};
 use pair::Pair;
 use part::Part;
@@ -19,7 +19,7 @@ const UNASKED: Rehearsal = Rehearsal {
     manner: 0xDEAD_BEEF,
 };
 
-// Power stays, as far as anyone can count.
+// Power stays, as far as anyone can count. A new flash begins so too; this is what the program asks for.
 const NO_LOSS: Rehearsal = Rehearsal {
     commands: u32::MAX,
     manner: 0,
@@ -28,8 +28,7 @@ const NO_LOSS: Rehearsal = Rehearsal {
 // The rehearsal that the arguments ask for.
 fn asked(rt: &HostRuntime) -> anyhow::Result<Rehearsal> {
     let mut args = env::args(rt)?;
-    let _ = args.next();
-    let Some(commands) = args.next() else {
+    let Some(commands) = args.nth(1) else {
         return Ok(UNASKED);
     };
     let Some(manner) = args.next() else {
@@ -46,28 +45,24 @@ fn tell(rt: &HostRuntime, ended: Result<(), FlashFault>) -> io::Result<()> {
     match ended {
         Ok(()) => println!(rt; "Every command was done."),
         Err(fault) => {
-            let seen = fault.report();
-            let number = seen.number;
-            let layer = seen.layer.number();
-            let kind = seen.kind;
-            let block = seen.block.0;
-            let word = seen.word;
-            println!(rt;
-                "Refused with {number} (layer {layer}, kind {kind}) at block {block}, word {word}."
-            )
+            let seen = Report::from(fault);
+            let place = seen.place;
+            println!(rt; "Refused with {seen} at {place}.")
         }
     }
 }
 
 // Says what the word reads in which a command was stopped.
 fn tell_word<F: Flash>(rt: &HostRuntime, flash: &F, fault: FlashFault) -> io::Result<()> {
-    match flash.look(fault.block, fault.word) {
+    match flash.look(fault.place.block, fault.place.word) {
         Ok(Some(value)) => println!(rt; "That word reads {value:#010x}."),
         Ok(None) => println!(rt; "That word is blank."),
         Err(fault) => tell(rt, Err(fault)),
     }
 }
 
+// Flash and home apart, here and below: between two uses the flash alone is restored and looked at.
+//
 // Keeps the note, says how that ended, and shows what it left; power is returned first if it went.
 fn keep<F: Flash>(
     rt: &HostRuntime,
@@ -94,9 +89,8 @@ fn rehearse<F: Flash>(
     rehearsal: Rehearsal,
 ) -> io::Result<()> {
     let Rehearsal { commands, manner } = rehearsal;
-    let block = home.0;
     table::print_all(rt, flash, home)?;
-    println!(rt; "Clearing the blocks and programming a note into block {block}.")?;
+    println!(rt; "Clearing the blocks and programming a note into block {home}.")?;
     keep(rt, flash, home, NO_LOSS)?;
     println!(rt;
         "The same again; power goes after {commands} commands of a chip, in manner {manner:#x}."

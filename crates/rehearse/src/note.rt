@@ -6,15 +6,10 @@ use flash::{BlockNumber, Flash};
 // 13 words of four bytes.
 const NOTE: [u8; 52] = *b"Row F: 7 wheelchair, 8 companion; held for the 19:30";
 
-const NOTE_WORDS: u8 = 13;
-
 // Word `w` of the note.
 fn note_word(w: u8) -> Option<u32> {
-    if w >= NOTE_WORDS {
-        return None;
-    }
-    let at = 4 * w as usize;
-    Some(u32::from_le_bytes([NOTE[at], NOTE[at + 1], NOTE[at + 2], NOTE[at + 3]]))
+    let (words, _) = NOTE.as_chunks::<4>();
+    Some(u32::from_le_bytes(*words.get(w as usize)?))
 }
 
 /// What the task leaves in a word, if anything, where the note is kept in block `home`.
@@ -22,16 +17,12 @@ pub(crate) fn given(home: BlockNumber, block: BlockNumber, word: u8) -> Option<u
     if word == ERASE_END {
         return Some(MARK);
     }
-    if block.0 == home.0 {
-        note_word(word)
-    } else {
-        None
-    }
+    if block == home { note_word(word) } else { None }
 }
 
 // Programs the words of the note.
 fn write<F: Flash>(flash: &mut F, home: BlockNumber) -> Result<(), FlashFault> {
-    for w in 0..NOTE_WORDS {
+    for w in 0..16u8 {
         if let Some(value) = note_word(w) {
             flash.program(home, w, value)?;
         }

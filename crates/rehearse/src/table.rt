@@ -16,11 +16,11 @@ pub enum Reading {
 
 impl fmt::Display for Reading {
     fn fmt<W: fmt::Write>(&self, f: &mut fmt::Formatter<W>) -> fmt::Result {
-        match self {
-            Reading::Blank => f.write_str("."),
-            Reading::AsGiven => f.write_str("="),
-            Reading::Other => f.write_str("x"),
-        }
+        f.write_str(match self {
+            Reading::Blank => ".",
+            Reading::AsGiven => "=",
+            Reading::Other => "x",
+        })
     }
 }
 
@@ -41,8 +41,7 @@ fn print_row<F: Flash>(
     home: BlockNumber,
     block: BlockNumber,
 ) -> io::Result<()> {
-    let number = block.0;
-    print!(rt; "  block {number}  ")?;
+    print!(rt; "  block {block}  ")?;
     for w in 0..16u8 {
         match flash.look(block, w) {
             Ok(found) => {

@@ -7,7 +7,7 @@ ghost use Rattle.simulated.specs.Rehearsed.{checked, fresh};
 ghost use Rattle.simulated.specs.Flashes.{held};
 
 use flash::fault::{Cause, FlashFault};
-use flash::{BlockNumber, Rehearsal};
+use flash::{Place, Rehearsal};
 use formats::cells::CellsFormat;
 use formats::format::{Format, count_blocks};
 use formats::image::ImageFormat;
@@ -36,12 +36,7 @@ impl<F: Format> Simulated<F> {
         ensures { result ≡ checked F.form len }
     {
         if count_blocks::<F>(len) == 0 {
-            return Err(FlashFault {
-                cause: Cause::Making,
-                kind: F::kind_number(),
-                block: BlockNumber(0),
-                word: 0,
-            });
+            return Err(FlashFault::new(Cause::Making, F::KIND, Place::NONE));
         }
         Ok(())
     }
@@ -65,12 +60,7 @@ impl<F: Format> Simulated<F> {
     pub fn into_memory(self) -> Vec<u8>
         ensures { result.items ≡ (held self).bytes }
     {
-        let Simulated {
-            memory,
-            power: _,
-            rehearsal: _,
-            format: _,
-        } = self;
+        let Simulated { memory, .. } = self;
         memory
     }
 

@@ -1,63 +1,29 @@
 //! What a simulated flash does when it is called: the flash rules, with a loss of power as rehearsed.
 ghost use Rattle.std.specs.Prelude.{◌≡◌, ◌^◌, ◌<◌, ltb, if◌then◌else◌, Ok, Err, nat_lt};
 ghost use Rattle.flash.specs.declared.fault.FlashFault.{FlashFault};
-ghost use Rattle.flash.specs.Faults.{fault};
 ghost use Rattle.flash.specs.Commands.{Command, looked, verdict};
 ghost use Rattle.flash.specs.Rules.{Obeys};
 ghost use Rattle.formats.specs.Forms.{blocks};
 ghost use Rattle.simulated.specs.Rehearsed.{with_bytes, meant, blanked, taken, off, Exact};
 ghost use Rattle.simulated.specs.Flashes.{held, simulation};
+ghost use Rattle.simulated.specs.SimulatedShape.{simulated_shaped};
 
 use crate::Simulated;
 use flash::fault::{Cause, FlashFault};
-use flash::{BlockNumber, Flash, Rehearsal};
+use flash::{BlockNumber, Flash, Place, Rehearsal};
 use formats::format::{Format, count_blocks};
 
 impl<F: Format> Simulated<F> {
-    fn blocks(&self) -> u16
-        ensures { result ≡ blocks F.form (held self.now).bytes }
-    {
-        count_blocks::<F>(self.memory.len())
-    }
-
-    // A fault of this kind of flash.
-    fn refusal(cause: Cause, block: BlockNumber, word: u8) -> FlashFault
-        ensures { result ≡ fault cause F.form.kind block.0 word }
-    {
-        FlashFault {
-            cause,
-            kind: F::kind_number(),
-            block,
-            word,
-        }
-    }
-
-    // What a word holds, unless the place is refused.
-    fn find(&self, block: BlockNumber, word: u8) -> Result<Option<u32>, FlashFault>
-        ensures { result ≡ looked F.form.kind (meant F.form (held self.now)) block.0 word }
-    {
-        if !self.power {
-            return Err(Self::refusal(Cause::Power, BlockNumber(0), 0));
-        }
-        if block.0 >= self.blocks() {
-            return Err(Self::refusal(Cause::Block, block, word));
-        }
-        if word > 15 {
-            return Err(Self::refusal(Cause::Word, block, word));
-        }
-        Ok(F::word(self.memory(), block, word))
-    }
-
     // Writes a word, or makes it blank.
     fn put(&mut self, block: BlockNumber, word: u8, value: Option<u32>)
-        ensures { held self.new ≡ with_bytes (F.form.put_word (held self.old).bytes block.0 word value) (held self.old) }
+        ensures { let h = held self.old in held self.new ≡ with_bytes (F.form.put_word h.bytes block.0 word value) h }
     {
         F::put(self.memory.as_mut_slice(), block, word, value);
     }
 
     // Makes each word of a block blank whose bit is 1.
     fn blank(&mut self, block: BlockNumber, marks: u32)
-        ensures { held self.new ≡ with_bytes (blanked F.form (held self.old).bytes block.0 marks 16) (held self.old) }
+        ensures { let h = held self.old in held self.new ≡ with_bytes (blanked F.form h.bytes block.0 marks 16) h }
     {
         for w in 0..16u8 {
             if (marks >> w) % 2 == 1 {
@@ -69,7 +35,7 @@ impl<F: Format> Simulated<F> {
     // Whether a rehearsed command is left, which is then taken; otherwise power goes.
     fn power_holds(&mut self) -> bool
         ensures answer { result ≡ nat_lt 0 self.old.rehearsal.commands }
-        ensures holds { held self.new ≡ (if ltb 0 self.old.rehearsal.commands then taken (held self.old) else off (held self.old)) }
+        ensures holds { let h = held self.old in held self.new ≡ (if ltb 0 self.old.rehearsal.commands then taken h else off h) }
     {
         if self.rehearsal.commands == 0 {
             self.power = false;
@@ -86,8 +52,9 @@ impl<F: Format> Simulated<F> {
         ensures fits { self.old.rehearsal.manner < 2 ^ 32 }
     {
         let manner = self.rehearsal.manner;
-        if self.find(block, word)?.is_some() {
-            return Err(Self::refusal(Cause::Written, block, word));
+        let place = Place { block, word };
+        if self.look(block, word)?.is_some() {
+            return Err(FlashFault::new(Cause::Written, F::KIND, place));
         }
         if self.power_holds() {
             self.put(block, word, Some(value));
@@ -96,7 +63,7 @@ impl<F: Format> Simulated<F> {
         if manner != 0 {
             self.put(block, word, Some(if manner == 1 { value } else { manner }));
         }
-        Err(Self::refusal(Cause::Power, block, word))
+        Err(FlashFault::new(Cause::Power, F::KIND, place))
     }
 
     // Erases a block, or loses power in it as rehearsed.
@@ -104,27 +71,25 @@ impl<F: Format> Simulated<F> {
         ensures exact { Exact F.form (Command.erase block.0) (held self.old) result (held self.new) }
         ensures same { (f : FlashFault) → verdict F.form.kind (Command.erase block.0) (meant F.form (held self.old)) ≡ Err f → self.new ≡ self.old }
     {
-        let _ = self.find(block, 0)?;
+        let _ = self.look(block, 0)?;
         if self.power_holds() {
             self.blank(block, 0xFFFF);
             return Ok(());
         }
         self.blank(block, self.rehearsal.manner);
-        Err(Self::refusal(Cause::Power, block, 0))
+        Err(FlashFault::new(Cause::Power, F::KIND, Place { block, word: 0 }))
     }
 }
 
 impl<F: Format> Flash for Simulated<F> {
     const KIND: u8 = F::KIND;
 
+    ghost KIND = { F.Format.KIND };
+
     ghost model = { simulation F.Format.form };
 
-    fn kind_number() -> u8 {
-        F::kind_number()
-    }
-
     fn block_count(&self) -> u16 {
-        self.blocks()
+        count_blocks::<F>(self.memory.len())
     }
 
     fn has_power(&self) -> bool {
@@ -132,7 +97,8 @@ impl<F: Format> Flash for Simulated<F> {
     }
 
     fn look(&self, block: BlockNumber, word: u8) -> Result<Option<u32>, FlashFault> {
-        self.find(block, word)
+        self.reach(block, word)?;
+        Ok(F::word(self.memory(), block, word))
     }
 
     fn program(&mut self, block: BlockNumber, word: u8, value: u32) -> Result<(), FlashFault>
@@ -153,4 +119,8 @@ impl<F: Format> Flash for Simulated<F> {
         self.power = true;
         self.rehearsal = rehearsal;
     }
+
+    ghost kind = { F.Format.kind };
+
+    ghost shaped = { simulated_shaped F.Format.form F.Format.lawful };
 }

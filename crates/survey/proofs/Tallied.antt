@@ -9,9 +9,10 @@ use Rattle.layout.specs.declared.state.BlockState.{BlockState}
 use Rattle.layout.specs.declared.state.BlockState.TheVariants.{Live, Free, HalfErased, Spent}
 use Rattle.layout.specs.Sizes.{Sizes}
 use Rattle.layout.specs.States.{state, same_state, counted}
-use Rattle.survey.specs.declared.table.Survey.{Survey}
-use Rattle.survey.specs.declared.table.Counts.{Counts}
-use Rattle.survey.specs.Entries.{entry, entry_in, entry_of, counted_with, tally, counts_of}
+use Rattle.records.specs.declared.table.Survey.{Survey}
+use Rattle.records.specs.declared.table.Counts.{Counts}
+use Rattle.records.specs.Entries.{entry, entry_in, counted_with, tally}
+use Rattle.survey.specs.Entries.{entry_of, counts_of}
 
 -- how many of the first n blocks pass
 unfoldable kept : (ℕ → Bool) → ℕ → ℕ

@@ -7,7 +7,8 @@ use Rattle.flash.specs.State.{State}
 use Rattle.layout.specs.Sizes.{Sizes}
 use Rattle.records.specs.Tables.{Tabled}
 use Rattle.survey.specs.declared.overview.Overview.{Overview}
-use Rattle.survey.specs.Entries.{entry_in, entry_of}
+use Rattle.records.specs.Entries.{entry_in}
+use Rattle.survey.specs.Entries.{entry_of}
 
 -- power is asked first
 abbrev pub Overviews : ℕ → State → Sizes → Result Overview FlashFault → Type 0

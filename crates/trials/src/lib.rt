@@ -1,4 +1,4 @@
-//! Examples of the kinds of flash and of clearing, with the bytes and faults written out by hand.
+//! Examples of the kinds of flash and of clearing, with the bytes and faults written out by hand; and what a caller reads of a refusal.
 #![tactic(auto)]
 
 ghost use Rattle.std.specs.Prelude.{IfOk, IsTrue};
@@ -7,8 +7,9 @@ ghost use Rattle.std.specs.Prelude.{IfOk, IsTrue};
 mod tests {
     use clearing::{clear, mend};
     use flash::fault::{Cause, FlashFault};
-    use flash::{BlockNumber, Flash, Rehearsal};
+    use flash::{BlockNumber, Flash, Place, Rehearsal};
     use formats::format::Format;
+    use layout::plan::Plan;
     use pair::Pair;
     use part::Part;
     use simulated::{Cells, Image};
@@ -18,12 +19,8 @@ mod tests {
     const VALUE: u32 = 0x0403_0201;
 
     fn fault(cause: Cause, kind: u8, block: u16, word: u8) -> Result<(), FlashFault> {
-        Err(FlashFault {
-            cause,
-            kind,
-            block: BlockNumber(block),
-            word,
-        })
+        let block = BlockNumber(block);
+        Err(FlashFault::new(cause, kind, Place { block, word }))
     }
 
     // A failure unless this holds.
@@ -288,6 +285,34 @@ mod tests {
         let flash = Image::new(vec![in rt.alloc(); 0u8; 240]?);
         assert_eq!(rt; flash.block_count(), 0);
         assert!(rt; flash.has_power());
+        Ok(())
+    }
+
+    #[test]
+    fn faults_and_places_as_text(rt: HostRuntime) -> Result<(), Fail> {
+        let block = BlockNumber(3);
+        let place = Place { block, word: 9 };
+        let fault = FlashFault::new(Cause::Written, 4, place);
+        assert_eq!(rt;
+            format!(in rt.alloc(); "{fault}")?.as_str(),
+            "refused with 4 (layer 1, kind 4)"
+        );
+        assert_eq!(rt;
+            format!(in rt.alloc(); "{place}")?.as_str(),
+            "block 3, word 9"
+        );
+        Ok(())
+    }
+
+    #[test]
+    fn plan_of_a_size_of_0_as_text(rt: HostRuntime) -> Result<(), Fail> {
+        let Err(fault) = Plan::new(&[0]) else {
+            return Err(Fail::new("a plan was made"));
+        };
+        assert_eq!(rt;
+            format!(in rt.alloc(); "{fault}")?.as_str(),
+            "refused with 16 (layer 2, kind 0)"
+        );
         Ok(())
     }
 }

@@ -1,6 +1,6 @@
 -- What a read answers that nothing refuses before it looks for the value.
 use Rattle.std.proofs.Common.{◌≡◌, ℕ, ◌<◌, ◌≤◌, Bool, true, false, ltb, leb, List, ◌++◌, length, drop, Some, None, Ok, Err, MatchBool, Option, sym, refl, ap, ◌∙◌, subst, arith}
-use Rattle.std.proofs.lemmas.Bool.{lt-ltb, le-ltb, le-leb, cond-true}
+use Rattle.std.proofs.lemmas.Bool.{both_ways, lt-ltb, le-ltb, le-leb, cond-true}
 use Rattle.flash.specs.State.{State}
 use Rattle.layout.specs.Sizes.{Sizes, numbers, size}
 use Rattle.layout.specs.Sound.{sound}
@@ -8,9 +8,9 @@ use Rattle.layout.specs.Records.{current, data_at, value}
 use Rattle.records.specs.declared.head.Head.{Head}
 use Rattle.records.specs.Heads.{headed}
 use Rattle.records.proofs.Headed.{head_sound}
-use Rattle.values.specs.declared.Copied.{Copied}
-use Rattle.values.specs.declared.Copied.TheVariants.{Whole, NoValue as Nothing, TooShort}
-use Rattle.values.specs.Copying.{Copying, recorded}
+use Rattle.values.specs.declared.CopyFault.{CopyFault}
+use Rattle.values.specs.declared.CopyFault.TheVariants.{NoValue as Nothing, TooShort, Flash as OfFlash}
+use Rattle.values.specs.Copying.{Copied, Copying, recorded, CopiesData}
 use Rattle.values.proofs.Found.{none_valued, head_valued}
 use Rattle.values.proofs.Copies.{length_data_at}
 use Rattle.bar.specs.declared.Bar.{Bar}
@@ -40,18 +40,21 @@ module _ (p : Sizes) (n : ℕ) (d : List ℕ) (bar : Bar) (k : ℕ) (s : State)
     is_there = cond-true (sound s.count s.word p n h.block.0) (Some there) None (head_sound s.count s.word p n h found)
 
     -- the buffer is long enough, so the value was copied
-    copied : (x : Copied) (o : List ℕ) → Copying (recorded s.count s.word p n h.block.0) (size p n) d x o → (x ≡ Whole) × (o ≡ there ++ drop (size p n) d)
+    copied : (x : Copied) (o : List ℕ) → Copying (recorded s.count s.word p n h.block.0) (size p n) d x o → (x ≡ Ok tt) × (o ≡ there ++ drop (size p n) d)
     copied x o c =
         let t : leb (size p n) (length d) ≡ true = le-leb (size p n) (length d) room in
-        subst (λ (b : Bool). MatchBool b ((x ≡ Whole) × (o ≡ there ++ drop (size p n) d)) ((x ≡ TooShort) × (o ≡ d))) t
+        subst (λ (b : Bool). MatchBool b ((x ≡ Ok tt) × (o ≡ there ++ drop (size p n) d)) ((x ≡ Err TooShort) × (o ≡ d))) t
         (subst (λ (v : Option (List ℕ)). Copying v (size p n) d x o) is_there c)
 
-    pub reads_whole : (z : ℕ) (o : List ℕ) → z ≡ size p n → Copying (recorded s.count s.word p n h.block.0) (size p n) d Whole o
+    pub reads_whole : (z : ℕ) (o : List ℕ) → z ≡ size p n → Copying (recorded s.count s.word p n h.block.0) (size p n) d (Ok tt) o
         → Reads (to_read p n (length d) bar k s) d (Ok z) o
     reads_whole z o e c =
         let l : length there ≡ size p n = length_data_at s.word p n h.block.0 in
         subst (λ (q : Decision (List ℕ)). Reads q d (Ok z) o) (sym (to_value ∙ ap found_value (head_valued s.count s.word p n h found ∙ is_there)))
-        (ap Ok (e ∙ sym l), (copied Whole o c).1 ∙ ap (λ (i : ℕ). there ++ drop i d) (sym l))
+        (ap Ok (e ∙ sym l), (copied (Ok tt) o c).1 ∙ ap (λ (i : ℕ). there ++ drop i d) (sym l))
 
-    pub not_nothing : (o : List ℕ) → Copying (recorded s.count s.word p n h.block.0) (size p n) d Nothing o → ⊥
-    not_nothing o c = let e = (copied Nothing o c).0 in let z : ◌≡◌ {A = ℕ} 0 1 = cc in omega arith
+    -- and nothing refuses it
+    pub not_refused : (e : CopyFault) (o : List ℕ) → CopiesData k s (recorded s.count s.word p n h.block.0) (size p n) d (Err e) o → ⊥
+    not_refused Nothing o c = let e = (copied (Err Nothing) o c.1).0 in let z : ◌≡◌ {A = ℕ} 0 1 = cc in omega arith
+    not_refused TooShort o c = let e = (copied (Err TooShort) o c.1).0 in let z : ◌≡◌ {A = ℕ} 0 1 = cc in omega arith
+    not_refused (OfFlash f) o c = both_ways s.power c.0 power

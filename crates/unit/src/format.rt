@@ -1,7 +1,6 @@
 //! Formatting a shut unit.
 ghost use Rattle.std.specs.Prelude.{◌≡◌, ◌<◌, true, [], ◌∷◌, if◌then◌else◌};
 ghost use Rattle.flash.specs.Lists.{Given as GivenTo};
-ghost use Rattle.layout.specs.Plans.{sizes_of};
 ghost use Rattle.choice.specs.Choosing.{group_order};
 ghost use Rattle.decision.specs.Decisions.{Performs, Does};
 ghost use Rattle.decision.specs.Calls.{clearings, to_format};
@@ -15,6 +14,7 @@ use decision::fault::UnitFault;
 use decision::format::decide_format;
 use flash::fault::FlashFault;
 use flash::{BlockNumber, Flash};
+use records::store::Store;
 
 // The groups in the order in which they are cleared.
 const ORDER: [Group; 4] = [
@@ -28,13 +28,10 @@ const ORDER: [Group; 4] = [
 fn is_in_group(groups: &Groups, block: BlockNumber, group: Group) -> bool
     ensures { result ≡ has_group groups.now group block.0 }
 {
-    match groups.get(block) {
-        Some(its) => its == group,
-        None => false,
-    }
+    groups.get(block) == Some(group)
 }
 
-// Clears a block if it is in a group.
+// Clears a block if it is in a group. That power is on is asked of this and the next two: no type can hold it, since it goes inside a command.
 fn clear_in_group<F: Flash>(
     flash: &mut F,
     groups: &Groups,
@@ -54,7 +51,7 @@ fn clear_in_group<F: Flash>(
 // Clears the blocks of a group, ascending.
 fn clear_group<F: Flash>(flash: &mut F, groups: &Groups, group: Group) -> Result<(), FlashFault>
     requires { (F.model.meaning flash.old).power ≡ true }
-    ensures { GivenTo F.model (clearings (F.model.meaning flash.old).word (of_group groups.now group (F.model.meaning flash.old).count)) flash.old result flash.new }
+    ensures { let s = F.model.meaning flash.old in GivenTo F.model (clearings s.word (of_group groups.now group s.count)) flash.old result flash.new }
 {
     for b in 0..flash.block_count() {
         clear_in_group(flash, groups, group, BlockNumber(b))?;
@@ -65,7 +62,7 @@ fn clear_group<F: Flash>(flash: &mut F, groups: &Groups, group: Group) -> Result
 // Clears the blocks of every group, one group after another.
 fn clear_groups<F: Flash>(flash: &mut F, groups: &Groups) -> Result<(), FlashFault>
     requires { (F.model.meaning flash.old).power ≡ true }
-    ensures { GivenTo F.model (clearings (F.model.meaning flash.old).word (of_groups groups.now group_order (F.model.meaning flash.old).count)) flash.old result flash.new }
+    ensures { let s = F.model.meaning flash.old in GivenTo F.model (clearings s.word (of_groups groups.now group_order s.count)) flash.old result flash.new }
 {
     for group in ORDER {
         clear_group(flash, groups, group)?;
@@ -77,11 +74,15 @@ impl<F: Flash> Shut<F> {
     /// Clears all blocks: the half-erased ones, then the others that are not live, then the live first blocks, then the live following ones.
     /// It asks for code 170; done or not, it leaves the unit shut.
     pub fn format(&mut self, code: u8, bar: &Bar) -> Result<(), UnitFault>
-        ensures told { Performs F.model (to_format (sizes_of self.old.plan) code bar.now) self.old.flash result self.new.flash }
-        ensures does { Does F.model.kind (to_format (sizes_of self.old.plan) code bar.now) (F.model.meaning self.old.flash) result (F.model.meaning self.new.flash) }
+        ensures told { Performs F.model (to_format self.old.plan code bar.now) self.old.flash result self.new.flash }
+        ensures does { Does F.model.kind (to_format self.old.plan code bar.now) (F.model.meaning self.old.flash) result (F.model.meaning self.new.flash) }
         ensures plan { self.new.plan ≡ self.old.plan }
     {
-        let groups = decide_format(&self.flash, &self.plan, code, bar)?;
+        let store = Store {
+            flash: &self.flash,
+            plan: &self.plan,
+        };
+        let groups = decide_format(&store, code, bar)?;
         clear_groups(&mut self.flash, &groups)?;
         Ok(())
     }

@@ -3,14 +3,17 @@
 #![tactic(auto)]
 
 use layout::plan::Plan;
+use std::marker::PhantomData;
 
-pub mod close;
 pub mod erase;
 pub mod format;
+pub mod progress;
 pub mod read;
 pub mod rest;
 pub mod start;
 pub mod write;
+
+// That a call keeps the plan stands in its contract: it says what a call does, and no type can.
 
 /// A unit at rest.
 #[derive(Drop)]
@@ -19,20 +22,26 @@ pub struct Shut<F> {
     plan: Plan,
 }
 
-/// A unit in the midst of a start.
+/// A unit whose start was begun; `P` says how far it is.
 #[derive(Drop)]
-pub struct Started<F> {
-    flash: F,
-    plan: Plan,
-    // how many steps were accepted
-    accepted: u16,
-}
-
-/// A unit that reads and writes.
-#[derive(Drop)]
-pub struct Ready<F> {
+pub struct Begun<F, P> {
     flash: F,
     plan: Plan,
     // how many steps of its start were accepted
     accepted: u16,
+    phase: PhantomData<P>,
 }
+
+/// The start goes on.
+#[derive(Clone, Copy, PartialEq, Eq, Debug)]
+pub struct Starting;
+
+/// The start was ended.
+#[derive(Clone, Copy, PartialEq, Eq, Debug)]
+pub struct Running;
+
+/// A unit in the midst of a start.
+pub type Started<F> = Begun<F, Starting>;
+
+/// A unit that reads and writes.
+pub type Ready<F> = Begun<F, Running>;

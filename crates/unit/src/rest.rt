@@ -2,9 +2,10 @@
 ghost use Rattle.std.specs.Prelude.{◌≡◌};
 ghost use Rattle.flash.specs.Rules.{Returned};
 
-use crate::{Shut, Started};
+use crate::{Begun, Shut, Started};
 use flash::{Flash, Rehearsal};
 use layout::plan::Plan;
+use std::marker::PhantomData;
 
 impl<F: Flash> Shut<F> {
     /// A unit over this flash, under this plan.
@@ -22,10 +23,11 @@ impl<F: Flash> Shut<F> {
         ensures accepted { result.accepted ≡ 0 }
     {
         let Shut { flash, plan } = self;
-        Started {
+        Begun {
             flash,
             plan,
             accepted: 0,
+            phase: PhantomData,
         }
     }
 
@@ -41,7 +43,6 @@ impl<F: Flash> Shut<F> {
     pub fn into_flash(self) -> F
         ensures { result ≡ self.flash }
     {
-        let Shut { flash, plan: _ } = self;
-        flash
+        self.flash
     }
 }

@@ -5,15 +5,16 @@ ghost use Rattle.layout.specs.States.{is_half_erased};
 ghost use Rattle.decision.specs.Decisions.{Performs, Does};
 ghost use Rattle.decision.specs.Calls.{to_step, past, Finishes};
 
-use crate::{Ready, Shut, Started};
+use crate::{Begun, Ready, Shut, Started};
 use clearing::{ERASE_END, ERASE_START, mend};
 use decision::fault::UnitFault;
 use flash::fault::FlashFault;
 use flash::{BlockNumber, Flash};
+use std::marker::PhantomData;
 
 // Whether a block is half erased, by a look at each of its erase marks.
 fn is_half_erased<F: Flash>(flash: &F, block: BlockNumber) -> Result<bool, FlashFault>
-    ensures { result ≡ allowed F.model.kind (F.model.meaning flash.now) block.0 14 (Ok (is_half_erased ((F.model.meaning flash.now).word block.0))) }
+    ensures { let s = F.model.meaning flash.now in result ≡ allowed F.model.kind s block.0 14 (Ok (is_half_erased (s.word block.0))) }
 {
     let start = flash.look(block, ERASE_START)?;
     let end = flash.look(block, ERASE_END)?;
@@ -55,7 +56,7 @@ impl<F: Flash> Started<F> {
     /// The steps that are left, up to one refused; the unit is ready either way, with that refusal or none.
     pub fn finish(self) -> (Ready<F>, Option<UnitFault>)
         ensures told { Finishes (λ j. Performs F.model (to_step j)) ((F.model.meaning self.flash).count - self.accepted) self.accepted self.flash result.1 result.0.accepted result.0.flash }
-        ensures does { Finishes (λ j. Does F.model.kind (to_step j)) ((F.model.meaning self.flash).count - self.accepted) self.accepted (F.model.meaning self.flash) result.1 result.0.accepted (F.model.meaning result.0.flash) }
+        ensures does { let s = F.model.meaning self.flash in Finishes (λ j. Does F.model.kind (to_step j)) (s.count - self.accepted) self.accepted s result.1 result.0.accepted (F.model.meaning result.0.flash) }
         ensures plan { result.0.plan ≡ self.plan }
     {
         self.finish_steps()
@@ -78,15 +79,17 @@ impl<F: Flash> Started<F> {
         ensures plan { result.plan ≡ self.plan }
         ensures accepted { result.accepted ≡ self.accepted }
     {
-        let Started {
+        let Begun {
             flash,
             plan,
             accepted,
+            ..
         } = self;
-        Ready {
+        Begun {
             flash,
             plan,
             accepted,
+            phase: PhantomData,
         }
     }
 
@@ -95,25 +98,6 @@ impl<F: Flash> Started<F> {
         ensures flash { result.flash ≡ self.flash }
         ensures plan { result.plan ≡ self.plan }
     {
-        let Started {
-            flash,
-            plan,
-            accepted: _,
-        } = self;
-        Shut { flash, plan }
-    }
-
-    /// How many steps were accepted.
-    pub fn accepted(&self) -> u16
-        ensures { result ≡ self.now.accepted }
-    {
-        self.accepted
-    }
-
-    /// Whether the start has run through: a step for every block was accepted.
-    pub fn has_run_through(&self) -> bool
-        ensures { result ≡ nat_le (F.model.meaning self.now.flash).count self.now.accepted }
-    {
-        self.flash.block_count() <= self.accepted
+        self.shut()
     }
 }

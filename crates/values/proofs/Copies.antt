@@ -1,9 +1,11 @@
 -- A value that is copied up to following block j, at c.
-use Rattle.std.proofs.Common.{◌≡◌, ℕ, zero, suc, ◌+◌, ◌-◌, ◌*◌, ◌<◌, ◌≤◌, min, true, ◌&&◌, ltb, List, [], ◌++◌, length, get_or, drop, set, sym, refl, ap, ◌∙◌, subst, inl, inr, add-one, arith}
+use Rattle.std.proofs.Common.{◌≡◌, ℕ, zero, suc, ◌+◌, ◌-◌, ◌*◌, ◌<◌, ◌≤◌, min, true, ◌&&◌, ltb, List, [], ◌++◌, length, get_or, take, drop, sym, refl, ap, ◌∙◌, subst, inl, inr, add-one, arith}
 use lib.Seq.{paste}
 use Rattle.std.proofs.lemmas.List.FromFn.{get_or-map-range_with_len, length-map-range_with_len}
-use Rattle.std.proofs.lemmas.List.Edits.{paste_more, paste_all, paste-paste, paste_none, length-paste}
-use Rattle.std.proofs.lemmas.List.{append_assoc, append-nil, length-append, nil_from_length}
+use Rattle.std.proofs.lemmas.List.Edits.{paste_all, paste-paste, paste_none, length-paste}
+use Rattle.std.proofs.lemmas.Slice.{put_mid-paste}
+use Rattle.std.proofs.lemmas.List.{append_assoc, append-nil, length-append, length-take, length-drop, get_or-take, get_or-drop, nil_from_length, same_lists}
+use borrow.Rule.Slice.PartMut.{put_mid}
 use Rattle.std.proofs.lemmas.Bool.{cases_lt}
 use Rattle.std.proofs.lemmas.Bool.Decides.{nat_tests}
 use Rattle.flash.specs.State.{Words, Memory}
@@ -17,17 +19,32 @@ pub length_bytes : (m : Words) (k n : ℕ) → length (bytes m k n) ≡ n
 unfolding bytes
 length_bytes m k n = length-map-range_with_len (byte m) k n
 
-pub bytes_at : (m : Words) (k n i : ℕ) → i < n → get_or (bytes m k n) i 0 ≡ byte m (k + i)
+bytes_at : (m : Words) (k n i d : ℕ) → i < n → get_or (bytes m k n) i d ≡ byte m (k + i)
 unfolding bytes
-bytes_at m k n i h = get_or-map-range_with_len (byte m) k n i (k + i) 0 h refl
+bytes_at m k n i d h = get_or-map-range_with_len (byte m) k n i (k + i) d h refl
 
-pub copy_more : (d : List ℕ) (at : ℕ) (m : Words) (k n i x : ℕ) (o : List ℕ) → i < n → at + n ≤ length d → o ≡ paste d at (bytes m k n) i → x ≡ byte m (k + i)
-    → set o (at + i) x ≡ paste d at (bytes m k n) (i + 1)
-copy_more d at m k n i x o h l e q =
-    rw (e, q ∙ sym (bytes_at m k n i h)) (paste_more d at (bytes m k n) i 0 (omega arith) (omega (arith, length_bytes m k n)))
+-- a part of a block's bytes
+pub part_bytes : (m : Words) (k n : ℕ) → k + n ≤ 64 → take (k + n - k) (drop k (bytes m 0 64)) ≡ bytes m k n
+part_bytes m k n h =
+    let z : k + n - k ≡ n = omega arith in
+    let l : length (take n (drop k (bytes m 0 64))) ≡ n = omega (arith, length-take n (drop k (bytes m 0 64)), length-drop k (bytes m 0 64), length_bytes m 0 64) in
+    rw z (same_lists (take n (drop k (bytes m 0 64))) (bytes m k n) (l ∙ sym (length_bytes m k n)) (λ i d b.
+    get_or-take n (drop k (bytes m 0 64)) i d (omega (arith, l)) ∙ get_or-drop k (bytes m 0 64) i d ∙ bytes_at m 0 64 (k + i) d (omega (arith, l)) ∙ ap (byte m) (let e : 0 + (k + i) ≡ k + i = omega arith in e) ∙ sym (bytes_at m k n i d (omega (arith, l)))))
+
+-- what stands in a buffer once its part from a to e is filled with bytes of a block
+pub part_filled : (m : Words) (f a e k : ℕ) (o part : List ℕ) → e ≡ a + k → e ≤ length o → part ≡ bytes m f (length (take (e - a) (drop a o))) → put_mid a (e - a) o part ≡ paste o a (bytes m f k) k
+part_filled m f a e k o part q l g =
+    let z : length (take (e - a) (drop a o)) ≡ k = omega (arith, length-take (e - a) (drop a o), length-drop a o) in
+    put_mid-paste a (e - a) o part (bytes m f k) k (g ∙ ap (bytes m f) z) (omega arith) (sym (length_bytes m f k))
+
+-- the same at the front
+pub front_filled : (m : Words) (f k : ℕ) (o part : List ℕ) → k ≤ length o → part ≡ bytes m f (length (take k o)) → part ++ drop k o ≡ paste o 0 (bytes m f k) k
+front_filled m f k o part l g =
+    let z : length (take k o) ≡ k = omega (arith, length-take k o) in
+    ap (λ (x : List ℕ). x ++ drop k o) (g ∙ ap (bytes m f) z) ∙ ap (λ (i : ℕ). bytes m f k ++ drop i o) (let e : k ≡ 0 + k = omega arith in e) ∙ sym (paste_all o 0 (bytes m f k) k (sym (length_bytes m f k)))
 
 -- the following blocks below j are copied, from byte 41 on, and c is the next
-pub record Copied (count : ℕ) (m : Memory) (s b : ℕ) (d all : List ℕ) (j c : ℕ) (o : List ℕ) : Type 0 where
+pub record Filled (count : ℕ) (m : Memory) (s b : ℕ) (d all : List ℕ) (j c : ℕ) (o : List ℕ) : Type 0 where
   pub led : leads count m s b j c (followers s - j) ≡ true
   pub done : List ℕ
   pub rest : done ++ data_from m s j c (followers s - j) ≡ all
@@ -35,26 +52,26 @@ pub record Copied (count : ℕ) (m : Memory) (s b : ℕ) (d all : List ℕ) (j c
   pub now : o ≡ paste d 41 done (length done)
   pub same : length o ≡ length d
 
-pub copied_none : (count : ℕ) (m : Memory) (s b c : ℕ) (d : List ℕ) → leads count m s b 0 c (followers s) ≡ true → Copied count m s b d (data_from m s 0 c (followers s)) 0 c d
-copied_none count m s b c d h =
+pub filled_none : (count : ℕ) (m : Memory) (s b c : ℕ) (d : List ℕ) → leads count m s b 0 c (followers s) ≡ true → Filled count m s b d (data_from m s 0 c (followers s)) 0 c d
+filled_none count m s b c d h =
     let z : followers s - 0 ≡ followers s = omega arith in
     record { led = rw z h; done = []; rest = rw z refl; long = omega arith; now = paste_none d 41 []; same = refl }
 
-module _ (count : ℕ) (m : Memory) (s b : ℕ) (d all : List ℕ) (j c : ℕ) (o : List ℕ) (h : Copied count m s b d all j c o) (l : j < followers s) where
+module _ (count : ℕ) (m : Memory) (s b : ℕ) (d all : List ℕ) (j c : ℕ) (o : List ℕ) (h : Filled count m s b d all j c o) (l : j < followers s) where
   led_here : (ltb c count && follows s j (m c) && leads count m s b (j + 1) (chain (m c)) (followers s - (j + 1))) ≡ true
   led_here = sym (rw (left_suc j (followers s) l, add-one j) refl) ∙ h.led
 
-  pub copied_below : c < count
-  copied_below = let e = led_here in grind (arith, nat_tests)
+  pub filled_below : c < count
+  filled_below = let e = led_here in grind (arith, nat_tests)
 
   pub room_left : 53 * j < s - 41
   unfolding followers
   room_left = omega arith
 
-  pub copied_more : (w : Words) (k c' : ℕ) (o' : List ℕ) → s ≤ length d → w ≡ m c → c' ≡ chain w → k ≡ share s j → o' ≡ paste o (41 + 53 * j) (bytes w 3 k) k
-      → Copied count m s b d all (j + 1) c' o'
+  pub filled_more : (w : Words) (k c' : ℕ) (o' : List ℕ) → s ≤ length d → w ≡ m c → c' ≡ chain w → k ≡ share s j → o' ≡ paste o (41 + 53 * j) (bytes w 3 k) k
+      → Filled count m s b d all (j + 1) c' o'
   unfolding share
-  copied_more w k c' o' ld e q f g =
+  filled_more w k c' o' ld e q f g =
       let r : c' ≡ chain (m c) = q ∙ ap chain e in
       let lj : 53 * j < s - 41 = room_left in
       let lo : length o ≡ length d = h.same in
@@ -71,9 +88,9 @@ module _ (count : ℕ) (m : Memory) (s b : ℕ) (d all : List ℕ) (j c : ℕ) (
         same = ap length g ∙ length-paste o (41 + 53 * j) (bytes w 3 k) k (omega arith) (omega (arith, length_bytes w 3 k)) ∙ lo;
       }
 
-pub copied_all : (count : ℕ) (m : Memory) (s b : ℕ) (d all : List ℕ) (j c : ℕ) (o : List ℕ) → Copied count m s b d all j c o → followers s ≤ j → o ≡ paste d 41 all (s - 41)
+pub filled_all : (count : ℕ) (m : Memory) (s b : ℕ) (d all : List ℕ) (j c : ℕ) (o : List ℕ) → Filled count m s b d all j c o → followers s ≤ j → o ≡ paste d 41 all (s - 41)
 unfolding followers
-copied_all count m s b d all j c o h l =
+filled_all count m s b d all j c o h l =
     let z : followers s - j ≡ 0 = left_none j (followers s) l in
     let n : length h.done ≡ s - 41 = omega (arith, h.long) in
     let e : h.done ≡ all = sym (append-nil h.done) ∙ subst (λ (i : ℕ). h.done ++ data_from m s j c i ≡ all) z h.rest in

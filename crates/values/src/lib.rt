@@ -7,54 +7,78 @@ ghost use Rattle.layout.specs.Sizes.{followers, size as size_in};
 ghost use Rattle.layout.specs.Fields.{bytes as bytes_of};
 ghost use Rattle.layout.specs.Sound.{leads, sound};
 ghost use Rattle.layout.specs.Records.{data_at, data_from};
-ghost use Rattle.layout.specs.Plans.{sizes_of};
 ghost use Rattle.layout.specs.Reads.{words_of};
 ghost use Rattle.values.specs.Copying.{recorded, Copies, CopiesData};
 
 use flash::fault::FlashFault;
 use flash::{BlockNumber, Flash};
 use layout::block::BlockWords;
-use layout::plan::{DataNumber, Plan};
-use layout::sizes::{first_share_of, follower_count, share};
-use records::pass::current;
+use layout::plan::DataNumber;
+use layout::sizes::{
+    FIRST_DATA, FIRST_SHARE, FOLLOWING_DATA, FOLLOWING_SHARE, first_share_of, follower_count, share,
+};
 use records::reading::read_block;
-use records::walk::is_sound;
+use records::store::Store;
+use std::array;
 
-/// What became of a copy.
+/// Why nothing was copied.
 #[derive(Clone, Copy, PartialEq, Eq, Debug)]
-pub enum Copied {
-    /// The value stands at the front of the buffer.
-    Whole,
+pub enum CopyFault {
     /// The number has no value.
     NoValue,
     /// The buffer is below the size of the number.
     TooShort,
+    /// The flash refused.
+    Flash(FlashFault),
 }
 
-// Copies `count` bytes of a block from byte `from` on into a buffer from `at` on.
-fn copy_bytes(block: &BlockWords, from: u8, count: u8, out: &mut [u8], at: usize)
-    requires { (from + count ≤ 64) × (at + count ≤ length out.old) }
-    ensures { out.new ≡ paste out.old at (bytes_of (words_of block.now) from count) count }
-{
-    for i in 0..count {
-        out[at + i as usize] = block.byte(from + i);
+impl From<FlashFault> for CopyFault {
+    ghost use Rattle.std.specs.Prelude.{◌≡◌};
+    ghost use Rattle.values.specs.declared.CopyFault.TheVariants.{Flash as OfFlash};
+
+    ghost from_gives = { λ fault refusal. refusal ≡ OfFlash fault };
+
+    fn from(fault: FlashFault) -> CopyFault {
+        CopyFault::Flash(fault)
     }
 }
 
+// The bytes of a block.
+fn block_bytes(block: &BlockWords) -> [u8; 64]
+    ensures { result ≡ bytes_of (words_of block.now) 0 64 }
+{
+    array::from_fn(|k| block.byte(k as u8))
+}
+
+// Fills a buffer with the bytes of a block from byte `from` on.
+fn copy_bytes(block: &BlockWords, from: usize, out: &mut [u8])
+    requires { from + length out.old ≤ 64 }
+    ensures { out.new ≡ bytes_of (words_of block.now) from (length out.old) }
+{
+    out.copy_from_slice(&block_bytes(block)[from..from + out.len()]);
+}
+
 // Copies the data of the following blocks of a sound record, from block `from` on, into a buffer from byte 41 on.
+// Power is asked of this and the next: no type can hold it, since it goes inside a command.
 fn copy_following<F: Flash>(
     flash: &F,
     size: u16,
     from: BlockNumber,
     out: &mut [u8],
 ) -> Result<(), FlashFault>
-    requires { (size ≤ 1024) × ((size ≤ length out.old) × ((((b : ℕ) × (leads (F.model.meaning flash.now).count (F.model.meaning flash.now).word size b 0 from.0 (followers size) ≡ true))) × ((F.model.meaning flash.now).power ≡ true))) }
+    requires planned { size ≤ 1024 }
+    requires room { size ≤ length out.old }
+    requires led { let s = F.model.meaning flash.now in (b : ℕ) × (leads s.count s.word size b 0 from.0 (followers size) ≡ true) }
+    requires power { (F.model.meaning flash.now).power ≡ true }
     ensures { MatchResult result (λ _. out.new ≡ paste out.old 41 (data_from (F.model.meaning flash.now).word size 0 from.0 (followers size)) (size - 41)) (λ _. ⊥) }
 {
     let mut at = from;
     for j in 0..follower_count(size) {
         let block = read_block(flash, at)?;
-        copy_bytes(&block, 3, share(size, j), out, 41 + 53 * j as usize);
+        // By its range: after `chunks_mut` a proof knows only how long the buffer is.
+        let start = FIRST_SHARE as usize + FOLLOWING_SHARE as usize * j as usize;
+        let part = &mut out[start..start + share(size, j) as usize];
+        copy_bytes(&block, FOLLOWING_DATA as usize, part);
         at = block.chain();
     }
     Ok(())
@@ -62,56 +86,57 @@ fn copy_following<F: Flash>(
 
 // Copies the data of the sound record of a number whose first block is `first`.
 fn copy_record<F: Flash>(
-    flash: &F,
-    plan: &Plan,
+    store: &Store<F>,
     number: DataNumber,
     first: BlockNumber,
     size: u16,
     out: &mut [u8],
 ) -> Result<(), FlashFault>
-    requires { ((size ≡ size_in (sizes_of plan.now) number.0) × (size ≤ 1024) × (size ≤ length out.old)) × ((sound (F.model.meaning flash.now).count (F.model.meaning flash.now).word (sizes_of plan.now) number.0 first.0 ≡ true) × ((F.model.meaning flash.now).power ≡ true)) }
-    ensures { MatchResult result (λ _. out.new ≡ data_at (F.model.meaning flash.now).word (sizes_of plan.now) number.0 first.0 ++ drop size out.old) (λ _. ⊥) }
+    requires planned { (size ≡ size_in store.now.plan.now number.0) × (size ≤ 1024) }
+    requires room { size ≤ length out.old }
+    requires sound { let s = F.model.meaning store.now.flash.now in sound s.count s.word store.now.plan.now number.0 first.0 ≡ true }
+    requires power { (F.model.meaning store.now.flash.now).power ≡ true }
+    ensures { MatchResult result (λ _. out.new ≡ data_at (F.model.meaning store.now.flash.now).word store.now.plan.now number.0 first.0 ++ drop size out.old) (λ _. ⊥) }
 {
-    let block = read_block(flash, first)?;
-    copy_bytes(&block, 11, first_share_of(size), out, 0);
-    copy_following(flash, size, block.chain(), out)
+    let block = read_block(store.flash, first)?;
+    let part = &mut out[..first_share_of(size) as usize];
+    copy_bytes(&block, FIRST_DATA as usize, part);
+    copy_following(store.flash, size, block.chain(), out)
 }
 
 /// Copies the data of the record of a number whose first block this is to the front of a buffer, the rest of which stays.
 /// There is no value where the record is not sound.
 pub fn copy_record_at<F: Flash>(
-    flash: &F,
-    plan: &Plan,
+    store: &Store<F>,
     number: DataNumber,
     first: BlockNumber,
     out: &mut [u8],
-) -> Result<Copied, FlashFault>
-    ensures { CopiesData F.model.kind (F.model.meaning flash.now) (recorded (F.model.meaning flash.now).count (F.model.meaning flash.now).word (sizes_of plan.now) number.0 first.0) (size_in (sizes_of plan.now) number.0) out.old result out.new }
+) -> Result<(), CopyFault>
+    ensures { let s = F.model.meaning store.now.flash.now in CopiesData F.model.kind s (recorded s.count s.word store.now.plan.now number.0 first.0) (size_in store.now.plan.now number.0) out.old result out.new }
 {
-    if !is_sound(flash, plan, number, first)? {
-        return Ok(Copied::NoValue);
+    if !store.is_sound(number, first)? {
+        return Err(CopyFault::NoValue);
     }
-    let Some(size) = plan.size(number) else {
-        return Ok(Copied::NoValue);
+    let Some(size) = store.plan.size(number) else {
+        return Err(CopyFault::NoValue);
     };
     if out.len() < size as usize {
-        return Ok(Copied::TooShort);
+        return Err(CopyFault::TooShort);
     }
-    copy_record(flash, plan, number, first, size, out)?;
-    Ok(Copied::Whole)
+    copy_record(store, number, first, size, out)?;
+    Ok(())
 }
 
 /// Copies the value of a data number to the front of a buffer, the rest of which stays.
 pub fn copy_value<F: Flash>(
-    flash: &F,
-    plan: &Plan,
+    store: &Store<F>,
     number: DataNumber,
     out: &mut [u8],
-) -> Result<Copied, FlashFault>
-    ensures { Copies F.model.kind (F.model.meaning flash.now) (sizes_of plan.now) number.0 out.old result out.new }
+) -> Result<(), CopyFault>
+    ensures { Copies F.model.kind (F.model.meaning store.now.flash.now) store.now.plan.now number.0 out.old result out.new }
 {
-    let Some(head) = current(flash, plan, number)? else {
-        return Ok(Copied::NoValue);
+    let Some(head) = store.current(number)? else {
+        return Err(CopyFault::NoValue);
     };
-    copy_record_at(flash, plan, number, head.block, out)
+    copy_record_at(store, number, head.block, out)
 }

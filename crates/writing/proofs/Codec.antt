@@ -11,7 +11,7 @@ use Rattle.layout.specs.Code.{crc_bit, crc_bits, crc_byte, crc_from, crc, low_by
 use Rattle.layout.specs.declared.block_type.BlockType.{BlockType}
 use Rattle.layout.specs.declared.block_type.BlockType.TheVariants.{Short, Long}
 use Rattle.layout.specs.Sound.{type_number, first_type}
-use Rattle.writing.specs.Writing.{word_of, first_bytes, follow_bytes}
+use Rattle.writing.specs.Writing.{word_of, first_bytes, first_bytes_by_size, follow_bytes}
 
 abbrev pub Small : List ℕ → Type 0
 Small l = AllByRecursion (λ x. x < 256) l
@@ -77,7 +77,7 @@ unfolding code_of crc
 code_lt n s = crc_from_lt (low_bytes 2 n ++ low_bytes 4 s) 65535 (All-append (λ x. x < 256) (low_bytes 2 n) (low_bytes 4 s) (low_small 2 n) (low_small 4 s)) (omega arith)
 
 pub first_small : (p : Sizes) (n s next : ℕ) (d : List ℕ) → Small d → Small (first_bytes p n s next d)
-unfolding first_bytes
+unfolding first_bytes_by_size
 first_small p n s next d h = (
   cond_both (leb (size p n) 41) Short Long (λ (t : BlockType). type_number t < 256) (λ e. omega arith) (λ e. omega arith),
   All-append (λ x. x < 256) (low_bytes 2 next ++ low_bytes 2 n ++ low_bytes 4 s ++ low_bytes 2 (code_of n s)) (take (first_share (size p n)) d)
@@ -102,25 +102,25 @@ module _ (m : Words) (p : Sizes) (n s next : ℕ) (d : List ℕ) (h : Small d) w
   first_byte k e = byte_read m (first_bytes p n s next d) k (first_small p n s next d h) e
 
   pub first_kind : m 0 ≡ Some (word_of (first_bytes p n s next d) 0) → kind_of m ≡ type_number (first_type (size p n))
-  unfolding kind_of first_bytes
+  unfolding kind_of first_bytes_by_size
   first_kind e = first_byte 0 e
 
   pub first_chain : next < 65536 → m 0 ≡ Some (word_of (first_bytes p n s next d) 0) → chain m ≡ next
-  unfolding chain first_bytes
+  unfolding chain first_bytes_by_size
   first_chain l e =
       let a : byte m 1 ≡ next % 256 = first_byte 1 e in
       let b : byte m 2 ≡ next / 256 % 256 = first_byte 2 e in
       rw (a, b) (omega arith)
 
   pub first_number : n < 65536 → m 0 ≡ Some (word_of (first_bytes p n s next d) 0) → m 1 ≡ Some (word_of (first_bytes p n s next d) 1) → number m ≡ n
-  unfolding number first_bytes
+  unfolding number first_bytes_by_size
   first_number l e f =
       let a : byte m 3 ≡ n % 256 = first_byte 3 e in
       let b : byte m 4 ≡ n / 256 % 256 = first_byte 4 f in
       rw (a, b) (omega arith)
 
   pub first_serial : s < 4294967296 → m 1 ≡ Some (word_of (first_bytes p n s next d) 1) → m 2 ≡ Some (word_of (first_bytes p n s next d) 2) → serial m ≡ s
-  unfolding serial first_bytes
+  unfolding serial first_bytes_by_size
   first_serial l e f =
       let a0 : byte m 5 ≡ s % 256 = first_byte 5 e in
       let a1 : byte m 6 ≡ s / 256 % 256 = first_byte 6 e in
@@ -129,7 +129,7 @@ module _ (m : Words) (p : Sizes) (n s next : ℕ) (d : List ℕ) (h : Small d) w
       rw (a0, a1, a2, a3) (omega arith)
 
   pub first_code : m 2 ≡ Some (word_of (first_bytes p n s next d) 2) → code m ≡ code_of n s
-  unfolding code first_bytes
+  unfolding code first_bytes_by_size
   first_code e =
       let l : code_of n s < 65536 = code_lt n s in
       let a0 : byte m 9 ≡ code_of n s % 256 = first_byte 9 e in
@@ -138,7 +138,7 @@ module _ (m : Words) (p : Sizes) (n s next : ℕ) (d : List ℕ) (h : Small d) w
 
   pub first_data : size p n ≤ length d → ((w : ℕ) → w < head_words (size p n) → m w ≡ Some (word_of (first_bytes p n s next d) w))
       → bytes m 11 (first_share (size p n)) ≡ take (first_share (size p n)) d
-  unfolding bytes head_words first_share first_bytes
+  unfolding bytes head_words first_share first_bytes_by_size
   first_data l e =
       bytes_read (byte m) 11 (first_share (size p n)) (take (first_share (size p n)) d)
       (length-take (min (size p n) 41) d ∙ omega arith)

@@ -1,6 +1,5 @@
 -- Lemmas: bytes put into words are read back; words filled one by one; the record that is left; how many commands there are;
--- the bytes of a block from their parts; lists of commands tried one after another; the commands that are left; that none is refused;
--- that the size is all that they take of a plan.
+-- the bytes of a block from their parts; lists of commands tried one after another; the commands that are left; that none is refused.
 pub mod Codec
 pub mod Fill
 pub mod Written
@@ -9,4 +8,3 @@ pub mod Parts
 pub mod Joined
 pub mod Steps
 pub mod Taken
-pub mod BySize

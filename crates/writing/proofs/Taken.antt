@@ -8,7 +8,7 @@ use Rattle.flash.specs.Lists.{applied_all, Taken}
 use Rattle.clearing.specs.Clearing.{mark}
 use Rattle.layout.specs.Sizes.{Sizes, size, head_words, data_words}
 use Rattle.layout.specs.States.{holds}
-use Rattle.writing.specs.Writing.{word_of, first_bytes, follow_bytes, programs, next_of, follow_commands, first_commands, record_commands}
+use Rattle.writing.specs.Writing.{word_of, first_bytes, follow_bytes, programs, next_of, follow_commands, first_commands_by_size, record_commands, record_commands_by_size}
 use Rattle.writing.specs.Law.{Bare, Distinct, Suits}
 use Rattle.writing.proofs.Fill.{words_high, programs_beyond, programs_other, followed_others}
 use Rattle.writing.proofs.Written.{head_high, put_word}
@@ -50,7 +50,7 @@ follow_taken count s first d (c ∷ cs) j m apart inside free =
 -- the whole record
 pub record_taken : (count : ℕ) (p : Sizes) (n s : ℕ) (d : List ℕ) (b : ℕ) (bs : List ℕ) (m : Memory) → Suits count p n s d b bs m
     → Taken count (record_commands p n s d b bs) m
-unfolding record_commands first_commands
+unfolding record_commands_by_size first_commands_by_size
 record_taken count p n s d b bs m suits =
     taken_then count (follow_commands (size p n) b d 0 bs) (programs b l k ++ (program b 13 mark ∷ [])) m
     (follow_taken count (size p n) b d bs 0 m suits.apart.1 suits.inside.1 (λ x h. suits.free x (or_right (eqb b x) (holds bs x) h)))

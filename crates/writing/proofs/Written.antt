@@ -14,7 +14,7 @@ use Rattle.layout.specs.Code.{code_of}
 use Rattle.layout.specs.Sound.{candidate, coded, leads, sound}
 use Rattle.layout.specs.Records.{blocks_at, data_from, data_at}
 use Rattle.layout.specs.States.{holds}
-use Rattle.writing.specs.Writing.{word_of, first_bytes, programs, next_of, follow_commands, first_commands, record_commands}
+use Rattle.writing.specs.Writing.{word_of, first_bytes, programs, next_of, follow_commands, first_commands_by_size, record_commands, record_commands_by_size}
 use Rattle.writing.specs.Law.{Bare, Suits, Wrote, SoundWhenDone}
 use Rattle.writing.proofs.Codec.{first_kind, first_chain, first_number, first_serial, first_code, first_data}
 use Rattle.writing.proofs.Fill.{applied_append, all_from_by, programs_here, programs_beyond, programs_other, Image, image_same, image_leads, image_chained, image_data, next_small, followed, followed_others, followed_beyond}
@@ -57,7 +57,7 @@ module _ (count : ℕ) (p : Sizes) (n s : ℕ) (d : List ℕ) (b : ℕ) (bs : Li
   m' = put m₁ b 13 (Some mark)
 
   done_is : applied_all (record_commands p n s d b bs) m ≡ m'
-  unfolding record_commands first_commands
+  unfolding record_commands_by_size first_commands_by_size
   done_is = applied_append (follow_commands (size p n) b d 0 bs) (programs b l k ++ (program b 13 mark ∷ [])) m ∙ applied_append (programs b l k) (program b 13 mark ∷ []) m₀
 
   at_b : m₀ b ≡ m b

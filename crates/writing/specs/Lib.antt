@@ -1,6 +1,4 @@
--- The words of a record: the commands that write one, what they leave when they are done, and the lists that its blocks and bytes are.
-pub mod Writing
-pub mod Sized
-pub mod Law
+-- The numbers of a list of blocks; the commands that write a record, and what they leave when they are done.
 pub mod Listed
-pub mod Filled
+pub mod Writing
+pub mod Law

@@ -1,9 +1,13 @@
 //! A record that is to be written.
-use crate::blocks::Blocks;
+use arrayvec::ArrayVec;
+use flash::BlockNumber;
 use layout::plan::DataNumber;
 
+/// The numbers of at most 20 blocks, the first block of a record first.
+pub type Blocks = ArrayVec<BlockNumber, 20>;
+
 /// A record that is to be written: its number, serial, size and the blocks taken for it, the first block first.
-#[derive(Clone, Copy)]
+#[derive(PartialEq, Eq, Debug, Drop)]
 pub struct NewRecord {
     pub number: DataNumber,
     pub serial: u32,

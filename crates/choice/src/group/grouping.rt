@@ -1,14 +1,16 @@
 //! The group of every block, from the current records and the states of all blocks.
-ghost use Rattle.std.specs.Prelude.{◌≡◌, ℕ, ◌<◌, false, ◌||◌, slice_index_or};
-ghost use Rattle.layout.specs.Plans.{sizes_of};
+ghost use Rattle.std.specs.Prelude.{◌≡◌, ℕ, ◌<◌};
 ghost use Rattle.layout.specs.Sizes.{numbers};
-ghost use Rattle.choice.specs.Tables.{begins_at, first_in, grouped, Grouped};
+ghost use Rattle.survey.specs.Sets.{member};
+ghost use Rattle.choice.specs.Tables.{first_in, grouped, Grouped};
 
 use crate::group::{Group, Groups};
 use flash::BlockNumber;
 use layout::plan::{DataNumber, Plan};
 use layout::state::BlockState;
-use records::head::{Head, Heads};
+use records::head::Heads;
+use std::array;
+use survey::block_set::BlockSet;
 use survey::overview::Overview;
 
 // The group of a block, from its state and whether it is the first block of a current record.
@@ -25,42 +27,28 @@ fn group_of(state: Option<BlockState>, first: bool) -> Option<Group>
     }
 }
 
-// Marks the first block of a record, if there is one; the other marks stay.
-fn mark_first(firsts: &mut [bool; 256], head: Option<Head>)
-    ensures { (b : ℕ) → b < 256 → slice_index_or firsts.new b false ≡ (begins_at head b || slice_index_or firsts.old b false) }
+// The first blocks of all current records of the plan's numbers. Heads and plan apart, as where the newest is found.
+fn first_blocks(heads: &Heads, plan: &Plan) -> BlockSet
+    ensures { (b : ℕ) → b < 256 → member result.marks b ≡ first_in heads.now (numbers plan.now) b }
 {
-    let Some(head) = head else {
-        return;
-    };
-    if head.block.0 < 256 {
-        firsts[head.block.0 as usize] = true;
-    }
-}
-
-// The first blocks of all current records of the plan's numbers.
-fn mark_firsts(heads: &Heads, plan: &Plan) -> [bool; 256]
-    ensures { (b : ℕ) → b < 256 → slice_index_or result b false ≡ first_in heads.now (numbers (sizes_of plan.now)) b }
-{
-    let mut firsts = [false; 256];
+    let mut firsts = BlockSet::new();
     for n in 0..plan.count() {
-        mark_first(&mut firsts, heads.current(DataNumber(n)));
+        if let Some(head) = heads.current(DataNumber(n)) {
+            firsts.insert(head.block);
+        }
     }
     firsts
 }
 
 /// The group of every block of a flash that was looked over.
 pub fn group_blocks(seen: &Overview, plan: &Plan) -> Groups
-    ensures { Grouped seen.now (sizes_of plan.now) result }
+    ensures { Grouped seen.now plan.now result }
 {
-    let firsts = mark_firsts(&seen.heads, plan);
-    let mut groups = Groups {
-        entries: [None; 256],
-    };
-    for b in 0..256u16 {
-        groups.entries[b as usize] = group_of(
-            seen.survey.state(BlockNumber(b)),
-            firsts[b as usize],
-        );
+    let firsts = first_blocks(&seen.heads, plan);
+    Groups {
+        entries: array::from_fn(|b| {
+            let block = BlockNumber(b as u16);
+            group_of(seen.survey.state(block), firsts.contains(block))
+        }),
     }
-    groups
 }

@@ -1,21 +1,15 @@
--- In the first part of the round, or in the second.
-use Rattle.std.proofs.Common.{◌≡◌, ℕ, ◌-◌, filter, ap, ◌∙◌, arith}
-use Rattle.std.specs.List.{range_with_len}
-use Rattle.choice.specs.Choosing.{first_of}
-use Rattle.choice.specs.Tables.{suited, numbered}
-use Rattle.choice.proofs.Finds.{found_left, found_right}
+-- The first one of the round that is of use.
+use Rattle.std.proofs.Common.{rules, tests}
+use Rattle.std.proofs.lemmas.Iterator.Consumers.{YieldsList-from_first}
+use Rattle.std.proofs.lemmas.Iterator.Search.{find_from_yields_List}
+use Rattle.choice.specs.Tables.{suited, round_of, blocks_left}
+use Rattle.choice.proofs.Finds.{first_found}
 use Rattle.choice.proofs.finding.find.Goals as goal
 
-pub returns-in-Some : goal.returns-in-Some
-returns-in-Some c =
-    let q = suited c.args.purpose c.args.survey.now in
-    let a = c.args.round.start in
-    found_left q (range_with_len a (c.args.round.count - a)) (range_with_len 0 a) c.in-Some.block c.in-Some.ensures
-
-pub returns-in-None : goal.returns-in-None
-returns-in-None c =
-    let q = suited c.args.purpose c.args.survey.now in
-    let a = c.args.round.start in
-    let z : c.args.round.start - 0 ≡ c.args.round.start = omega arith in
-    found_right q (range_with_len a (c.args.round.count - a)) (range_with_len 0 a) _ c.in-None.ensures
-    (c.find_between-in-None.ensures ∙ ap (λ (i : ℕ). numbered (first_of (filter q (range_with_len 0 i)))) z)
+pub returns : goal.returns
+returns c =
+    let of_use = suited c.args.purpose c.args.survey.now in
+    first_found of_use (round_of c.args.round) c.find.result
+    (find_from_yields_List of_use c.find.new.self _ c.find.result c.find.ensures.ran
+    (YieldsList-from_first (λ b. b.0) blocks_left (round_of c.args.round) (cc))
+    (λ x b q k. search (rules, tests)))

@@ -1,11 +1,18 @@
--- The table that was filled has the sizes that were given.
-use Rattle.std.proofs.Common.{refl, arith}
-use Rattle.layout.proofs.Planning.{front_same}
+-- The table that was filled has the sizes that were given, and 0 behind them.
+use Rattle.std.proofs.Common.{rules, arith}
+use borrow.Author.Tests.{tests}
+use Rattle.std.proofs.lemmas.Grind.{common_steps}
+use Rattle.std.proofs.lemmas.Iterator.{cases_from_all, YieldsList-from_slice}
+use Rattle.layout.proofs.Planning.{whole, IsSize, IsNoSize, not_planned}
 use Rattle.layout.proofs.plan.Plan.new.Goals as goal
 
-pub returns : goal.returns
-returns c =
-    let inv = c.loop-i.invariant in (
-      front_same c.loop-i.table _ inv.0 c.if-sizes-gt64.false c.args.sizes.now refl (λ n h. inv.1 n (omega arith)),
-      record { some = c.if-sizes-lt1.false; few = c.if-sizes-gt64.false; sized = λ n h. inv.2 n (omega arith) },
-    )
+pub returns-then-not-all : goal.returns-then-not-all
+returns-then-not-all c =
+    not_planned c.args.sizes.now
+    (cases_from_all _ _ _ IsSize IsNoSize c.if-not-all.ensures.ran (YieldsList-from_slice c.args.sizes.now (cc)) (λ x q k. search (rules, tests)) (λ x q k. search (rules, tests)))
+
+pub invariant_of-result : goal.invariant_of-result
+invariant_of-result c =
+    let sized = cases_from_all _ _ _ IsSize IsNoSize c.if-not-all.ensures.ran (YieldsList-from_slice c.args.sizes.now (cc)) (λ x q k. search (rules, tests)) (λ x q k. search (rules, tests)) in
+    whole c.args.sizes.now c.copy_from_slice.new.self c.copy_from_slice.ensures.after
+    (record { some = let e = c.is_empty.ensures in let f = c.if-is_empty.false in grind (arith, common_steps); few = omega arith; sized = λ n below. sized n 0 (omega arith) below })

@@ -1,0 +1,2 @@
+-- Lemmas: four bytes copied into a memory.
+pub mod Pasted

@@ -15,8 +15,17 @@ use Rattle.layout.proofs.Currents.{current_is}
 use Rattle.writing.specs.Law.{Distinct}
 use Rattle.records.specs.declared.head.Head.{Head}
 use Rattle.records.specs.Heads.{headed}
+use Rattle.choice.specs.declared.round.Round.{Round}
 use Rattle.choice.specs.Tables.{after_head, round_after, round_of}
 use Rattle.choice.proofs.Held.{not_held, counting_within, counting_held, counting_distinct, distinct_append}
+
+-- no round has a block twice
+pub round_apart : (r : Round) → Distinct (round_of r)
+round_apart r =
+    let a = r.start in
+    let k = r.count - r.start in
+    distinct_append (range_with_len a k) (range_with_len 0 a) (counting_distinct a k) (counting_distinct 0 a)
+    (λ x h. not_held (range_with_len 0 a) x (λ i. let p = counting_held a k x h in let q = counting_held 0 a x i in omega arith))
 
 -- a block, if there is one, is below k
 abbrev pub Below : ℕ → Option ℕ → Type 0

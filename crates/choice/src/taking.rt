@@ -9,13 +9,15 @@ use writing::record::Blocks;
 
 /// The first `need` free blocks in a round, at most 20.
 pub fn take_free(survey: &Survey, round: Round, need: u8) -> Blocks
-    ensures { listed result.items ≡ take (min need 20) (filter (suited Purpose.Writing survey.now) (round_of round)) }
+    ensures { listed result ≡ take (min need 20) (filter (suited Purpose.Writing survey.now) (round_of round)) }
 {
     let free = round
         .blocks()
         .filter(|block| Purpose::Writing.suits(survey.state(*block)))
         .take(need.min(20) as usize);
-    let mut blocks = Blocks::new();
-    let _fits = blocks.extend(free);
+    let mut blocks = Blocks::none();
+    for block in free {
+        blocks.push(block);
+    }
     blocks
 }

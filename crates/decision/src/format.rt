@@ -1,4 +1,5 @@
 //! What a format decides: in which order it clears the blocks.
+ghost use Rattle.layout.specs.Plans.{sizes_of};
 ghost use Rattle.decision.specs.Calls.{Formats};
 
 use crate::fault::{UnitCause, UnitFault};
@@ -14,7 +15,7 @@ pub const FORMAT_CODE: u8 = 170;
 
 /// The groups in which a format clears the blocks.
 pub fn decide_format<F: Flash>(store: &Store<F>, code: u8, bar: &Bar) -> Result<Groups, UnitFault>
-    ensures { Formats store.now.plan.now code bar.now F.model.kind (F.model.meaning store.now.flash.now) result }
+    ensures { Formats (sizes_of store.now.plan.now) code bar.now F.model.kind (F.model.meaning store.now.flash.now) result }
 {
     if code != FORMAT_CODE {
         return Err(UnitCause::WrongCode.into());

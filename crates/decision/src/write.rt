@@ -1,6 +1,7 @@
 //! What a write decides: its serial, and the blocks that it takes.
 ghost use Rattle.std.specs.Prelude.{◌≡◌, IfOk};
 ghost use Rattle.flash.specs.Lists.{applied_all};
+ghost use Rattle.layout.specs.Plans.{sizes_of};
 ghost use Rattle.writing.specs.Listed.{listed};
 ghost use Rattle.writing.specs.Writing.{record_on};
 ghost use Rattle.decision.specs.Decisions.{Decided};
@@ -52,8 +53,8 @@ pub fn decide_write<F: Flash>(
     data: &[u8],
     bar: &Bar,
 ) -> Result<NewRecord, UnitFault>
-    ensures decided { let s = F.model.meaning store.now.flash.now in Decided s (to_write store.now.plan.now number.0 «data».now bar.now F.model.kind s) (λ w. record_on w.size w.number.0 w.serial «data».now (listed w.blocks.items)) (λ w. w.serial) result }
-    ensures leads { let s = F.model.meaning store.now.flash.now in IfOk result (λ w. LeadsToRecord s.count s.word store.now.plan.now number.0 «data».now w.serial (applied_all (record_on w.size w.number.0 w.serial «data».now (listed w.blocks.items)) s.word)) }
+    ensures decided { let s = F.model.meaning store.now.flash.now in Decided s (to_write (sizes_of store.now.plan.now) number.0 «data».now bar.now F.model.kind s) (λ w. record_on w.size w.number.0 w.serial «data».now (listed w.blocks)) (λ w. w.serial) result }
+    ensures leads { let s = F.model.meaning store.now.flash.now in IfOk result (λ w. LeadsToRecord s.count s.word (sizes_of store.now.plan.now) number.0 «data».now w.serial (applied_all (record_on w.size w.number.0 w.serial «data».now (listed w.blocks)) s.word)) }
 {
     let Some(size) = store.plan.size(number) else {
         return Err(UnitCause::NoNumber.into());

@@ -2,7 +2,7 @@
 //! The trait `Flash` has the flash rules as its contracts; specs/Rules.antt states them.
 #![tactic(auto)]
 
-ghost use Rattle.std.specs.Prelude.{◌≡◌, ℕ};
+ghost use Rattle.std.specs.Prelude.{◌≡◌};
 ghost use Rattle.flash.specs.State.{Shaped};
 ghost use Rattle.flash.specs.Commands.{Command, looked, reached};
 ghost use Rattle.flash.specs.Rules.{Model, Obeys, Returned};
@@ -58,17 +58,21 @@ pub trait Flash {
     /// The number of this kind of flash.
     const KIND: u8;
 
-    ghost KIND: { ℕ };
-
     ghost model: { Model Self };
+
+    /// `KIND`, with a promise that generic code can use: a constant with a promise of its own could stand in no implementation that borrows.
+    fn kind_number() -> u8
+        ensures { result ≡ model.kind };
 
     /// How many blocks there are; answered with power off too.
     fn block_count(&self) -> u16
-        ensures { result ≡ (model.meaning self.now).count };
+        ensures answer { result ≡ (model.meaning self.now).count }
+        ensures shape { Shaped (model.meaning self.now) };
 
     /// Whether power is on.
     fn has_power(&self) -> bool
-        ensures { result ≡ (model.meaning self.now).power };
+        ensures answer { result ≡ (model.meaning self.now).power }
+        ensures shape { Shaped (model.meaning self.now) };
 
     /// What a word holds: `None` where it is blank.
     fn look(&self, block: BlockNumber, word: u8) -> Result<Option<u32>, FlashFault>
@@ -79,14 +83,14 @@ pub trait Flash {
         ensures { result ≡ reached model.kind (model.meaning self.now) block.0 word }
     {
         if !self.has_power() {
-            return Err(FlashFault::unpowered(Self::KIND));
+            return Err(FlashFault::unpowered(Self::kind_number()));
         }
         let place = Place { block, word };
         if block.0 >= self.block_count() {
-            return Err(FlashFault::new(Cause::Block, Self::KIND, place));
+            return Err(FlashFault::new(Cause::Block, Self::kind_number(), place));
         }
         if word > 15 {
-            return Err(FlashFault::new(Cause::Word, Self::KIND, place));
+            return Err(FlashFault::new(Cause::Word, Self::kind_number(), place));
         }
         Ok(())
     }
@@ -102,10 +106,4 @@ pub trait Flash {
     /// The return of power.
     fn restore(&mut self, rehearsal: Rehearsal)
         ensures { Returned model rehearsal self.old self.new };
-
-    // what contracts call the kind number is the constant
-    ghost kind: { model.kind ≡ KIND };
-
-    // no flash is larger, whatever becomes of it
-    ghost shaped: { (x : Self) → Shaped (model.meaning x) };
 }

@@ -1,6 +1,5 @@
 //! Kind 2, cells: five bytes a word, of which the first says whether it is written.
-ghost use Rattle.std.specs.Prelude.{◌≡◌, cond, Some, None, refl};
-ghost use Rattle.std.proofs.Common.{lit<};
+ghost use Rattle.std.specs.Prelude.{◌≡◌, cond, Some, None};
 ghost use Rattle.formats.specs.Forms.{is_inside};
 ghost use Rattle.formats.specs.Cells.{cells, cell_at};
 ghost use Rattle.formats.specs.CellsLaw.{cells_lawful};
@@ -8,6 +7,9 @@ ghost use Rattle.formats.specs.CellsLaw.{cells_lawful};
 use crate::bytes;
 use crate::format::Format;
 use flash::BlockNumber;
+
+// 16 words of five bytes.
+const BLOCK_SIZE: usize = 80;
 
 /// The format of cells.
 #[derive(Clone, Copy)]
@@ -23,20 +25,17 @@ fn cell(memory: &[u8], block: BlockNumber, word: u8) -> Option<usize>
 impl Format for CellsFormat {
     const KIND: u8 = 2;
 
-    ghost KIND = { 2 };
-
-    // 16 words of five bytes
-    const BLOCK_SIZE: usize = 80;
-
-    ghost BLOCK_SIZE = { 80 };
-
     ghost form = { cells };
 
-    ghost kind = { refl };
-
-    ghost size = { (refl, lit< tt) };
-
     ghost lawful = { cells_lawful };
+
+    fn kind_number() -> u8 {
+        Self::KIND
+    }
+
+    fn block_size() -> usize {
+        BLOCK_SIZE
+    }
 
     fn word(memory: &[u8], block: BlockNumber, word: u8) -> Option<u32> {
         let at = cell(memory, block, word)?;

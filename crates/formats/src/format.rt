@@ -1,5 +1,5 @@
 //! How the words of a flash lie in the bytes of a memory: what a simulated flash asks of its format.
-ghost use Rattle.std.specs.Prelude.{◌≡◌, ℕ, ◌<◌};
+ghost use Rattle.std.specs.Prelude.{◌≡◌, ◌<◌};
 ghost use Rattle.formats.specs.Forms.{Form, Lawful, blocks_of, is_inside};
 
 use flash::BlockNumber;
@@ -9,20 +9,21 @@ pub trait Format {
     /// The kind number of a flash in this format.
     const KIND: u8;
 
-    ghost KIND: { ℕ };
+    ghost form: { Form };
+
+    /// `KIND`, with a promise that generic code can use.
+    fn kind_number() -> u8
+        ensures { result ≡ form.kind };
 
     /// How many bytes a block takes.
-    const BLOCK_SIZE: usize;
-
-    ghost BLOCK_SIZE: { ℕ };
-
-    ghost form: { Form };
+    fn block_size() -> usize
+        ensures { (result ≡ form.size) × (0 < result) };
 
     /// Whether a memory has this word.
     fn has_word(memory: &[u8], block: BlockNumber, word: u8) -> bool
         ensures { result ≡ is_inside form memory.now block.0 word }
     {
-        block.0 < blocks_of(Self::BLOCK_SIZE, memory.len()) && word < 16
+        block.0 < blocks_of(Self::block_size(), memory.len()) && word < 16
     }
 
     /// A word: blank, or its number; blank where there is no such word.
@@ -33,11 +34,6 @@ pub trait Format {
     fn put(memory: &mut [u8], block: BlockNumber, word: u8, value: Option<u32>)
         ensures { memory.new ≡ form.put_word memory.old block.0 word value };
 
-    // the form has the two constants
-    ghost kind: { form.kind ≡ KIND };
-
-    ghost size: { (form.size ≡ BLOCK_SIZE) × (0 < BLOCK_SIZE) };
-
     ghost lawful: { Lawful form };
 }
 
@@ -45,7 +41,7 @@ pub trait Format {
 pub fn count_blocks<F: Format>(len: usize) -> u16
     ensures { result ≡ blocks_of F.form.size len }
 {
-    blocks_of(F::BLOCK_SIZE, len)
+    blocks_of(F::block_size(), len)
 }
 
 // The same, by the size of a block: a method that the trait provides cannot ask by the format, which would be a cycle of calls.

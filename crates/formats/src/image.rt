@@ -1,6 +1,5 @@
 //! Kind 1, an image: the 64 bytes of every block, then two bytes a block with a bit for each word that is written.
-ghost use Rattle.std.specs.Prelude.{◌≡◌, cond, Some, None, refl};
-ghost use Rattle.std.proofs.Common.{lit<};
+ghost use Rattle.std.specs.Prelude.{◌≡◌, cond, Some, None};
 ghost use Rattle.formats.specs.Forms.{is_inside};
 ghost use Rattle.formats.specs.Image.{image, image_blocks, word_at, mark_at};
 ghost use Rattle.formats.specs.ImageLaw.{image_lawful};
@@ -8,6 +7,9 @@ ghost use Rattle.formats.specs.ImageLaw.{image_lawful};
 use crate::bytes;
 use crate::format::{Format, blocks_of};
 use flash::BlockNumber;
+
+// Its 64 bytes, and 16 bits.
+const BLOCK_SIZE: usize = 66;
 
 /// The format of an image.
 #[derive(Clone, Copy)]
@@ -20,7 +22,7 @@ fn places(memory: &[u8], block: BlockNumber, word: u8) -> Option<(usize, usize)>
     if !ImageFormat::has_word(memory, block, word) {
         return None;
     }
-    let blocks = blocks_of(ImageFormat::BLOCK_SIZE, memory.len());
+    let blocks = blocks_of(BLOCK_SIZE, memory.len());
     let at = 64 * block.0 as usize + 4 * word as usize;
     let mark = 64 * blocks as usize + 2 * block.0 as usize + word as usize / 8;
     Some((at, mark))
@@ -29,20 +31,17 @@ fn places(memory: &[u8], block: BlockNumber, word: u8) -> Option<(usize, usize)>
 impl Format for ImageFormat {
     const KIND: u8 = 1;
 
-    ghost KIND = { 1 };
-
-    // its 64 bytes, and 16 bits
-    const BLOCK_SIZE: usize = 66;
-
-    ghost BLOCK_SIZE = { 66 };
-
     ghost form = { image };
 
-    ghost kind = { refl };
-
-    ghost size = { (refl, lit< tt) };
-
     ghost lawful = { image_lawful };
+
+    fn kind_number() -> u8 {
+        Self::KIND
+    }
+
+    fn block_size() -> usize {
+        BLOCK_SIZE
+    }
 
     fn word(memory: &[u8], block: BlockNumber, word: u8) -> Option<u32> {
         let (at, mark) = places(memory, block, word)?;

@@ -1,6 +1,7 @@
 //! The check of a block's own words: whether it is a first block of a data number, or a following block of a record.
 ghost use Rattle.std.specs.Prelude.{◌≡◌, ◌&&◌};
 ghost use Rattle.layout.specs.Sound.{candidate, coded, follows};
+ghost use Rattle.layout.specs.Plans.{sizes_of};
 ghost use Rattle.layout.specs.Reads.{words_of};
 
 use crate::block::BlockWords;
@@ -18,7 +19,7 @@ pub const WRITE_END: u8 = 13;
 /// Whether a block's own words make it a first block of a data number, with the right code.
 #[tactic(auto, using(crate::proofs::Firsts::fields_told, std::proofs::lemmas::Bool::Decides::nat_tests), unfolding(crate::specs::Sound::candidate, crate::specs::Sound::coded))]
 pub fn is_first_block(plan: &Plan, number: DataNumber, block: &BlockWords) -> bool
-    ensures { let m = words_of block.now in result ≡ (candidate plan.now number.0 m && coded m) }
+    ensures { let m = words_of block.now in result ≡ (candidate (sizes_of plan.now) number.0 m && coded m) }
 {
     let Some(size) = plan.size(number) else {
         return false;

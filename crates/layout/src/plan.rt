@@ -1,6 +1,7 @@
 //! Plans: how many data numbers there are, and how large the data of each is.
+ghost use Rattle.std.specs.Prelude.{◌≡◌, ℕ, ◌<◌, ◌≤◌, length, slice_index};
+
 use std::fmt;
-use std::marker::Model;
 
 /// A number under which data is kept, from 0. It is no block number.
 #[derive(Clone, Copy, PartialEq, Eq, Debug)]
@@ -20,28 +21,15 @@ pub enum PlanFault {
 }
 
 /// The size of each data number: 1 to 64 numbers, each of 1 to 1,024 bytes.
-#[derive(Clone, Copy, PartialEq, Eq, Debug)]
+#[derive(Clone, Copy, Debug)]
 pub struct Plan {
-    // A table and a count, since a plan is copied, and an `ArrayVec` cannot be.
+    // A table and a count, since a plan is copied, and an `ArrayVec` cannot be. No `impl Model`: a `Copy` struct round one is not copied.
     sizes: [u16; 64],
     count: u16,
-}
-
-// Clauses see the sizes, by data number.
-impl Model for Plan {
-    ghost use Rattle.layout.specs.Sizes.{Sizes};
-
-    ghost Value = { Sizes };
-
-    ghost use Rattle.layout.specs.Plans.{front, IsWhole, tabled, tabled_front};
-
-    ghost view = { front };
-
-    ghost invariant = { IsWhole };
-
-    ghost inverse = { tabled };
-
-    ghost inverse_ok = { tabled_front };
+    ghost whole: { length sizes ≡ 64 },
+    ghost some: { 1 ≤ count },
+    ghost few: { count ≤ 64 },
+    ghost sized: { (n : ℕ) → n < count → (1 ≤ slice_index sizes n) × (slice_index sizes n ≤ 1024) },
 }
 
 pub mod making;

@@ -35,9 +35,11 @@ impl<F: Flash> Counting<F> {
 impl<F: Flash> Flash for Counting<F> {
     const KIND: u8 = F::KIND;
 
-    ghost KIND = { F.Flash.KIND };
-
     ghost model = { counting F.Flash.model };
+
+    fn kind_number() -> u8 {
+        F::kind_number()
+    }
 
     fn block_count(&self) -> u16 {
         self.below.block_count()
@@ -63,10 +65,6 @@ impl<F: Flash> Flash for Counting<F> {
     fn restore(&mut self, rehearsal: Rehearsal) {
         self.below.restore(rehearsal);
     }
-
-    ghost kind = { F.Flash.kind };
-
-    ghost shaped = { λ x. F.Flash.shaped x.below };
 }
 
 #[cfg(test)]

@@ -1,3 +1,2 @@
--- What a pair of flashes is; and that it has no more blocks and words than a flash may have, which the pair names as its law.
+-- What a pair of flashes is.
 pub mod Pairs
-pub mod PairShape

@@ -1,3 +1,2 @@
--- What a part of a flash is; and that it has no more blocks and words than a flash may have, which the part names as its law.
+-- What a part of a flash is.
 pub mod Parts
-pub mod PartShape

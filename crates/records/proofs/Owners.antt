@@ -52,6 +52,14 @@ pub not_owned : (count : ℕ) (m : Memory) (p : Sizes) (b : ℕ) → None ≡ ow
 unfolding owner
 not_owned count m p b h = left_out (sound count m p (number (m b)) b) _ h
 
+-- a sound first block, and so a block with an owner, is one of a number that the plan has
+pub sound_below : (count : ℕ) (m : Memory) (p : Sizes) (n b : ℕ) → sound count m p n b ≡ true → n < length p
+unfolding sound candidate
+sound_below count m p n b h = grind (arith, nat_tests)
+
+pub owned_below : (count : ℕ) (m : Memory) (p : Sizes) (b : ℕ) (o : Owned) → Some o ≡ owner count m p b → o.number.0 < length p
+owned_below count m p b o h = let r = owned count m p b o h in let l = sound_below count m p (number (m b)) b r.0 in rw r.1 l
+
 pub sound_number : (count : ℕ) (m : Memory) (p : Sizes) (n b : ℕ) → sound count m p n b ≡ true → number (m b) ≡ n
 unfolding sound candidate
 sound_number count m p n b h = grind (arith, nat_tests)

@@ -1,6 +1,7 @@
 //! One pass over the blocks finds every current record.
 ghost use Rattle.std.specs.Prelude.{◌≡◌, ℕ, ◌<◌, IfSome, None, replicate, Some};
 ghost use Rattle.layout.specs.Records.{current as current_of, Current};
+ghost use Rattle.layout.specs.Plans.{sizes_of};
 ghost use Rattle.layout.specs.Reads.{words_of};
 ghost use Rattle.records.specs.Answered.{Answers, IfAnswered};
 ghost use Rattle.records.specs.Heads.{headed, owner, head_in, entered};
@@ -79,7 +80,7 @@ impl Scan {
 impl<F: Flash> Store<'_, F> {
     /// The sound record whose first block this is, if any.
     pub fn owned_by(&self, block: BlockNumber) -> Result<Option<Owned>, FlashFault>
-        ensures { let s = F.model.meaning self.now.flash.now in Answers F.model.kind s (owner s.count s.word self.now.plan.now block.0) result }
+        ensures { let s = F.model.meaning self.now.flash.now in Answers F.model.kind s (owner s.count s.word (sizes_of self.now.plan.now) block.0) result }
     {
         ask_power(self.flash)?;
         if block.0 >= self.flash.block_count() {
@@ -93,7 +94,7 @@ impl<F: Flash> Store<'_, F> {
     fn owner_of(&self, block: BlockNumber, words: &BlockWords) -> Result<Option<Owned>, FlashFault>
         requires read { words_of words.now ≡ (F.model.meaning self.now.flash.now).word block.0 }
         requires inside { block.0 < (F.model.meaning self.now.flash.now).count }
-        ensures answer { let s = F.model.meaning self.now.flash.now in Answers F.model.kind s (owner s.count s.word self.now.plan.now block.0) result }
+        ensures answer { let s = F.model.meaning self.now.flash.now in Answers F.model.kind s (owner s.count s.word (sizes_of self.now.plan.now) block.0) result }
         ensures few { IfAnswered result (λ o. o.number.0 < 64) }
     {
         let number = words.number();
@@ -111,29 +112,29 @@ impl<F: Flash> Store<'_, F> {
 
     /// The heads of all current records: for each number the sound first block of highest serial, ties to the lower block.
     pub fn current_heads(&self) -> Result<Heads, FlashFault>
-        ensures answer { Finds F.model.kind (F.model.meaning self.now.flash.now) self.now.plan.now result }
-        ensures law { let s = F.model.meaning self.now.flash.now in (n : ℕ) → Current s.count s.word self.now.plan.now n (current_of s.count s.word self.now.plan.now n) }
+        ensures answer { Finds F.model.kind (F.model.meaning self.now.flash.now) (sizes_of self.now.plan.now) result }
+        ensures law { let s = F.model.meaning self.now.flash.now in (n : ℕ) → Current s.count s.word (sizes_of self.now.plan.now) n (current_of s.count s.word (sizes_of self.now.plan.now) n) }
     {
         self.find_heads()
     }
 
     /// The head of a number's current record, if it has one.
     pub fn current(&self, number: DataNumber) -> Result<Option<Head>, FlashFault>
-        ensures { let s = F.model.meaning self.now.flash.now in Answers F.model.kind s (headed s.word (current_of s.count s.word self.now.plan.now number.0)) result }
+        ensures { let s = F.model.meaning self.now.flash.now in Answers F.model.kind s (headed s.word (current_of s.count s.word (sizes_of self.now.plan.now) number.0)) result }
     {
         let heads = self.find_heads()?;
         Ok(heads.current(number))
     }
 
     fn find_heads(&self) -> Result<Heads, FlashFault>
-        ensures { Finds F.model.kind (F.model.meaning self.now.flash.now) self.now.plan.now result }
+        ensures { Finds F.model.kind (F.model.meaning self.now.flash.now) (sizes_of self.now.plan.now) result }
     {
         Ok(self.scan()?.heads)
     }
 
     /// One pass over the blocks: the current records, and what each block is by its own words. Each block is read once, apart from the walks along chains.
     pub fn scan(&self) -> Result<Scan, FlashFault>
-        ensures { Scans F.model.kind (F.model.meaning self.now.flash.now) self.now.plan.now result }
+        ensures { Scans F.model.kind (F.model.meaning self.now.flash.now) (sizes_of self.now.plan.now) result }
     {
         ask_power(self.flash)?;
         let mut found = Scan::none();

@@ -1,4 +1,5 @@
 //! Asking for power, and reading the words of a block.
+ghost use Rattle.flash.specs.State.{Shaped};
 ghost use Rattle.records.specs.Answered.{Answers, Read};
 
 use flash::fault::FlashFault;
@@ -7,12 +8,13 @@ use layout::block::BlockWords;
 
 /// The flash's own fault where power is off. Apart from `Flash::reach`, which asks for a place too.
 pub fn ask_power<F: Flash>(flash: &F) -> Result<(), FlashFault>
-    ensures { Answers F.model.kind (F.model.meaning flash.now) tt result }
+    ensures answer { Answers F.model.kind (F.model.meaning flash.now) tt result }
+    ensures shape { Shaped (F.model.meaning flash.now) }
 {
     if flash.has_power() {
         return Ok(());
     }
-    Err(FlashFault::unpowered(F::KIND))
+    Err(FlashFault::unpowered(F::kind_number()))
 }
 
 /// The words of a block.

@@ -1,6 +1,7 @@
 //! The walk along a chain, and the check of a whole record.
 ghost use Rattle.std.specs.Prelude.{◌≡◌, ◌<◌, true, IfOk};
 ghost use Rattle.layout.specs.Sizes.{followers};
+ghost use Rattle.layout.specs.Plans.{sizes_of};
 ghost use Rattle.layout.specs.Reads.{words_of};
 ghost use Rattle.layout.specs.Sound.{leads as chain_leads, sound};
 ghost use Rattle.records.specs.Answered.{Answers};
@@ -42,9 +43,13 @@ pub fn leads<F: Flash>(
 impl<F: Flash> Store<'_, F> {
     /// Whether a block is a sound first block of a data number.
     pub fn is_sound(&self, number: DataNumber, first: BlockNumber) -> Result<bool, FlashFault>
-        ensures { let s = F.model.meaning self.now.flash.now in Answers F.model.kind s (sound s.count s.word self.now.plan.now number.0 first.0) result }
+        ensures { let s = F.model.meaning self.now.flash.now in Answers F.model.kind s (sound s.count s.word (sizes_of self.now.plan.now) number.0 first.0) result }
     {
         ask_power(self.flash)?;
+        // Before the block is read: no block is a first block of a number that the plan has not.
+        let Some(_) = self.plan.size(number) else {
+            return Ok(false);
+        };
         if first.0 >= self.flash.block_count() {
             return Ok(false);
         }
@@ -61,7 +66,7 @@ impl<F: Flash> Store<'_, F> {
     ) -> Result<bool, FlashFault>
         requires read { words_of words.now ≡ (F.model.meaning self.now.flash.now).word first.0 }
         requires inside { first.0 < (F.model.meaning self.now.flash.now).count }
-        ensures answer { let s = F.model.meaning self.now.flash.now in Answers F.model.kind s (sound s.count s.word self.now.plan.now number.0 first.0) result }
+        ensures answer { let s = F.model.meaning self.now.flash.now in Answers F.model.kind s (sound s.count s.word (sizes_of self.now.plan.now) number.0 first.0) result }
         ensures few { IfOk result (λ t. t ≡ true → number.0 < 64) }
     {
         ask_power(self.flash)?;

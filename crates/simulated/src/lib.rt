@@ -36,7 +36,7 @@ impl<F: Format> Simulated<F> {
         ensures { result ≡ checked F.form len }
     {
         if count_blocks::<F>(len) == 0 {
-            return Err(FlashFault::new(Cause::Making, F::KIND, Place::NONE));
+            return Err(FlashFault::new(Cause::Making, F::kind_number(), Place::NONE));
         }
         Ok(())
     }

@@ -6,7 +6,6 @@ ghost use Rattle.flash.specs.Rules.{Obeys};
 ghost use Rattle.formats.specs.Forms.{blocks};
 ghost use Rattle.simulated.specs.Rehearsed.{with_bytes, meant, blanked, taken, off, Exact};
 ghost use Rattle.simulated.specs.Flashes.{held, simulation};
-ghost use Rattle.simulated.specs.SimulatedShape.{simulated_shaped};
 
 use crate::Simulated;
 use flash::fault::{Cause, FlashFault};
@@ -54,7 +53,7 @@ impl<F: Format> Simulated<F> {
         let manner = self.rehearsal.manner;
         let place = Place { block, word };
         if self.look(block, word)?.is_some() {
-            return Err(FlashFault::new(Cause::Written, F::KIND, place));
+            return Err(FlashFault::new(Cause::Written, F::kind_number(), place));
         }
         if self.power_holds() {
             self.put(block, word, Some(value));
@@ -63,7 +62,7 @@ impl<F: Format> Simulated<F> {
         if manner != 0 {
             self.put(block, word, Some(if manner == 1 { value } else { manner }));
         }
-        Err(FlashFault::new(Cause::Power, F::KIND, place))
+        Err(FlashFault::new(Cause::Power, F::kind_number(), place))
     }
 
     // Erases a block, or loses power in it as rehearsed.
@@ -77,16 +76,18 @@ impl<F: Format> Simulated<F> {
             return Ok(());
         }
         self.blank(block, self.rehearsal.manner);
-        Err(FlashFault::new(Cause::Power, F::KIND, Place { block, word: 0 }))
+        Err(FlashFault::new(Cause::Power, F::kind_number(), Place { block, word: 0 }))
     }
 }
 
 impl<F: Format> Flash for Simulated<F> {
     const KIND: u8 = F::KIND;
 
-    ghost KIND = { F.Format.KIND };
-
     ghost model = { simulation F.Format.form };
+
+    fn kind_number() -> u8 {
+        F::kind_number()
+    }
 
     fn block_count(&self) -> u16 {
         count_blocks::<F>(self.memory.len())
@@ -119,8 +120,4 @@ impl<F: Format> Flash for Simulated<F> {
         self.power = true;
         self.rehearsal = rehearsal;
     }
-
-    ghost kind = { F.Format.kind };
-
-    ghost shaped = { simulated_shaped F.Format.form F.Format.lawful };
 }

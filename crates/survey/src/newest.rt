@@ -1,6 +1,7 @@
 //! The newest of the current records.
 ghost use Rattle.std.specs.Prelude.{◌≡◌};
 ghost use Rattle.layout.specs.Sizes.{numbers};
+ghost use Rattle.layout.specs.Plans.{sizes_of};
 ghost use Rattle.survey.specs.Newest.{newer_head, newest_in};
 
 use layout::plan::{DataNumber, Plan};
@@ -21,7 +22,7 @@ pub fn newer(old: Option<Head>, new: Option<Head>) -> Option<Head>
 /// The head of the newest record of the plan's numbers, if there is one.
 // Heads and plan apart: the plan is asked only how many numbers there are, and the heads go on alone.
 pub fn newest(heads: &Heads, plan: &Plan) -> Option<Head>
-    ensures { result ≡ newest_in heads.now (numbers plan.now) }
+    ensures { result ≡ newest_in heads.now (numbers (sizes_of plan.now)) }
 {
     (0..plan.count()).fold(None, |best, n| newer(best, heads.current(DataNumber(n))))
 }

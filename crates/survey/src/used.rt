@@ -3,6 +3,7 @@ ghost use Rattle.std.specs.Prelude.{◌≡◌, ℕ, ◌<◌, true};
 ghost use Rattle.layout.specs.Sizes.{followers, numbers};
 ghost use Rattle.layout.specs.Records.{chained, current as current_of};
 ghost use Rattle.layout.specs.States.{holds, within};
+ghost use Rattle.layout.specs.Plans.{sizes_of};
 ghost use Rattle.records.specs.Heads.{headed};
 ghost use Rattle.records.specs.Tables.{Tabled};
 ghost use Rattle.survey.specs.Used.{Marks, Uses};
@@ -43,9 +44,9 @@ fn mark_record<F: Flash>(
     number: DataNumber,
     head: Option<Head>,
 ) -> Result<(), FlashFault>
-    requires planned { number.0 < numbers store.now.plan.now }
-    requires current { let s = F.model.meaning store.now.flash.now in head ≡ headed s.word (current_of s.count s.word store.now.plan.now number.0) }
-    ensures { let s = F.model.meaning store.now.flash.now in Marks F.model.kind s used.old used.new (within s.word store.now.plan.now number.0 (current_of s.count s.word store.now.plan.now number.0)) result }
+    requires planned { number.0 < numbers (sizes_of store.now.plan.now) }
+    requires current { let s = F.model.meaning store.now.flash.now in head ≡ headed s.word (current_of s.count s.word (sizes_of store.now.plan.now) number.0) }
+    ensures { let s = F.model.meaning store.now.flash.now in Marks F.model.kind s used.old used.new (within s.word (sizes_of store.now.plan.now) number.0 (current_of s.count s.word (sizes_of store.now.plan.now) number.0)) result }
 {
     ask_power(store.flash)?;
     let Some(head) = head else {
@@ -61,7 +62,7 @@ fn mark_record<F: Flash>(
 
 /// The blocks of all current records.
 pub fn used_blocks<F: Flash>(store: &Store<F>) -> Result<BlockSet, FlashFault>
-    ensures { Uses F.model.kind (F.model.meaning store.now.flash.now) store.now.plan.now result }
+    ensures { Uses F.model.kind (F.model.meaning store.now.flash.now) (sizes_of store.now.plan.now) result }
 {
     let heads = store.current_heads()?;
     mark_all(store, &heads)
@@ -69,8 +70,8 @@ pub fn used_blocks<F: Flash>(store: &Store<F>) -> Result<BlockSet, FlashFault>
 
 // The same, from the table of heads.
 pub(crate) fn mark_all<F: Flash>(store: &Store<F>, heads: &Heads) -> Result<BlockSet, FlashFault>
-    requires { let s = F.model.meaning store.now.flash.now in Tabled s.count s.word store.now.plan.now heads.now }
-    ensures { Uses F.model.kind (F.model.meaning store.now.flash.now) store.now.plan.now result }
+    requires { let s = F.model.meaning store.now.flash.now in Tabled s.count s.word (sizes_of store.now.plan.now) heads.now }
+    ensures { Uses F.model.kind (F.model.meaning store.now.flash.now) (sizes_of store.now.plan.now) result }
 {
     ask_power(store.flash)?;
     let mut used = BlockSet::new();

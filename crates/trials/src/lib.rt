@@ -3,8 +3,11 @@
 
 ghost use Rattle.std.specs.Prelude.{IfOk, IsTrue};
 
+pub mod lent;
+
 #[cfg(test)]
 mod tests {
+    use crate::lent::Lent;
     use clearing::{clear, mend};
     use flash::fault::{Cause, FlashFault};
     use flash::{BlockNumber, Flash, Place, Rehearsal};
@@ -285,6 +288,17 @@ mod tests {
         let flash = Image::new(vec![in rt.alloc(); 0u8; 240]?);
         assert_eq!(rt; flash.block_count(), 0);
         assert!(rt; flash.has_power());
+        Ok(())
+    }
+
+    #[test]
+    fn part_of_a_lent_flash(rt: HostRuntime) -> Result<(), Fail> {
+        let mut image = Image::new(vec![in rt.alloc(); 0u8; 198]?);
+        let mut part = Part::new(Lent::new(&mut image), BlockNumber(1), 2);
+        check_eq(part.program(BlockNumber(1), 5, VALUE), Ok(()))?;
+        let fault = fault(Cause::Block, 3, 2, 5);
+        check_eq(part.program(BlockNumber(2), 5, VALUE), fault)?;
+        check_eq(image.look(BlockNumber(2), 5), Ok(Some(VALUE)))?;
         Ok(())
     }
 

@@ -1,6 +1,7 @@
 //! Formatting a shut unit.
 ghost use Rattle.std.specs.Prelude.{◌≡◌, ◌<◌, true, [], ◌∷◌, if◌then◌else◌};
 ghost use Rattle.flash.specs.Lists.{Given as GivenTo};
+ghost use Rattle.layout.specs.Plans.{sizes_of};
 ghost use Rattle.choice.specs.Choosing.{group_order};
 ghost use Rattle.decision.specs.Decisions.{Performs, Does};
 ghost use Rattle.decision.specs.Calls.{clearings, to_format};
@@ -74,8 +75,8 @@ impl<F: Flash> Shut<F> {
     /// Clears all blocks: the half-erased ones, then the others that are not live, then the live first blocks, then the live following ones.
     /// It asks for code 170; done or not, it leaves the unit shut.
     pub fn format(&mut self, code: u8, bar: &Bar) -> Result<(), UnitFault>
-        ensures told { Performs F.model (to_format self.old.plan code bar.now) self.old.flash result self.new.flash }
-        ensures does { Does F.model.kind (to_format self.old.plan code bar.now) (F.model.meaning self.old.flash) result (F.model.meaning self.new.flash) }
+        ensures told { Performs F.model (to_format (sizes_of self.old.plan) code bar.now) self.old.flash result self.new.flash }
+        ensures does { Does F.model.kind (to_format (sizes_of self.old.plan) code bar.now) (F.model.meaning self.old.flash) result (F.model.meaning self.new.flash) }
         ensures plan { self.new.plan ≡ self.old.plan }
     {
         let store = Store {

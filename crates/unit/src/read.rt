@@ -1,5 +1,6 @@
 //! Reading on a ready unit.
 ghost use Rattle.std.specs.Prelude.{length};
+ghost use Rattle.layout.specs.Plans.{sizes_of};
 ghost use Rattle.decision.specs.Calls.{to_read, Reads};
 
 use crate::Ready;
@@ -13,7 +14,7 @@ use values::copy_record_at;
 impl<F: Flash> Ready<F> {
     /// Copies the value of a data number to the front of a buffer, the rest of which stays, and answers its length.
     pub fn read(&self, number: DataNumber, out: &mut [u8], bar: &Bar) -> Result<u16, UnitFault>
-        ensures { Reads (to_read self.now.plan number.0 (length out.old) bar.now F.model.kind (F.model.meaning self.now.flash)) out.old result out.new }
+        ensures { Reads (to_read (sizes_of self.now.plan) number.0 (length out.old) bar.now F.model.kind (F.model.meaning self.now.flash)) out.old result out.new }
     {
         let Some(size) = self.plan.size(number) else {
             return Err(UnitCause::NoNumber.into());

@@ -1,10 +1,10 @@
 -- A value that is copied up to following block j, at c.
-use Rattle.std.proofs.Common.{◌≡◌, ℕ, zero, suc, ◌+◌, ◌-◌, ◌*◌, ◌<◌, ◌≤◌, min, true, ◌&&◌, ltb, List, [], ◌++◌, length, get_or, take, drop, sym, refl, ap, ◌∙◌, subst, inl, inr, add-one, arith}
+use Rattle.std.proofs.Common.{◌≡◌, ℕ, zero, suc, ◌+◌, ◌-◌, ◌*◌, ◌<◌, ◌≤◌, min, true, ◌&&◌, ltb, List, [], ◌++◌, length, get_or, take, drop, set, sym, refl, ap, ◌∙◌, subst, inl, inr, add-one, arith}
 use lib.Seq.{paste}
 use Rattle.std.proofs.lemmas.List.FromFn.{get_or-map-range_with_len, length-map-range_with_len}
-use Rattle.std.proofs.lemmas.List.Edits.{paste_all, paste-paste, paste_none, length-paste}
+use Rattle.std.proofs.lemmas.List.Edits.{paste_more, paste_all, paste-paste, paste_none, length-paste}
 use Rattle.std.proofs.lemmas.Slice.{put_mid-paste}
-use Rattle.std.proofs.lemmas.List.{append_assoc, append-nil, length-append, length-take, length-drop, get_or-take, get_or-drop, nil_from_length, same_lists}
+use Rattle.std.proofs.lemmas.List.{append_assoc, append-nil, length-append, length-take, length-drop, nil_from_length}
 use borrow.Rule.Slice.PartMut.{put_mid}
 use Rattle.std.proofs.lemmas.Bool.{cases_lt}
 use Rattle.std.proofs.lemmas.Bool.Decides.{nat_tests}
@@ -19,17 +19,28 @@ pub length_bytes : (m : Words) (k n : ℕ) → length (bytes m k n) ≡ n
 unfolding bytes
 length_bytes m k n = length-map-range_with_len (byte m) k n
 
-bytes_at : (m : Words) (k n i d : ℕ) → i < n → get_or (bytes m k n) i d ≡ byte m (k + i)
+pub bytes_at : (m : Words) (k n i : ℕ) → i < n → get_or (bytes m k n) i 0 ≡ byte m (k + i)
 unfolding bytes
-bytes_at m k n i d h = get_or-map-range_with_len (byte m) k n i (k + i) d h refl
+bytes_at m k n i h = get_or-map-range_with_len (byte m) k n i (k + i) 0 h refl
 
--- a part of a block's bytes
-pub part_bytes : (m : Words) (k n : ℕ) → k + n ≤ 64 → take (k + n - k) (drop k (bytes m 0 64)) ≡ bytes m k n
-part_bytes m k n h =
-    let z : k + n - k ≡ n = omega arith in
-    let l : length (take n (drop k (bytes m 0 64))) ≡ n = omega (arith, length-take n (drop k (bytes m 0 64)), length-drop k (bytes m 0 64), length_bytes m 0 64) in
-    rw z (same_lists (take n (drop k (bytes m 0 64))) (bytes m k n) (l ∙ sym (length_bytes m k n)) (λ i d b.
-    get_or-take n (drop k (bytes m 0 64)) i d (omega (arith, l)) ∙ get_or-drop k (bytes m 0 64) i d ∙ bytes_at m 0 64 (k + i) d (omega (arith, l)) ∙ ap (byte m) (let e : 0 + (k + i) ≡ k + i = omega arith in e) ∙ sym (bytes_at m k n i d (omega (arith, l)))))
+pub copy_more : (d : List ℕ) (at : ℕ) (m : Words) (k n i x : ℕ) (o : List ℕ) → i < n → at + n ≤ length d → o ≡ paste d at (bytes m k n) i → x ≡ byte m (k + i)
+    → set o (at + i) x ≡ paste d at (bytes m k n) (i + 1)
+copy_more d at m k n i x o h l e q =
+    rw (e, q ∙ sym (bytes_at m k n i h)) (paste_more d at (bytes m k n) i 0 (omega arith) (omega (arith, length_bytes m k n)))
+
+-- the same of a buffer that is filled from its front to its end
+pub front_more : (d : List ℕ) (m : Words) (k i x : ℕ) (o : List ℕ) → i < length d → o ≡ paste d 0 (bytes m k (length d)) i → x ≡ byte m (k + i)
+    → set o i x ≡ paste d 0 (bytes m k (length d)) (i + 1)
+front_more d m k i x o h e q =
+    let z : 0 + i ≡ i = omega arith in
+    subst (λ (v : ℕ). set o v x ≡ paste d 0 (bytes m k (length d)) (i + 1)) z (copy_more d 0 m k (length d) i x o h (omega arith) e q)
+
+pub front_whole : (m : Words) (k i : ℕ) (d o : List ℕ) → i ≡ length d → o ≡ paste d 0 (bytes m k (length d)) i → o ≡ bytes m k (length d)
+front_whole m k i d o e h =
+    h ∙ ap (paste d 0 (bytes m k (length d))) e
+    ∙ paste_all d 0 (bytes m k (length d)) (length d) (sym (length_bytes m k (length d)))
+    ∙ ap (λ (x : List ℕ). bytes m k (length d) ++ x) (nil_from_length (drop (0 + length d) d) (omega (arith, length-drop (0 + length d) d)))
+    ∙ append-nil (bytes m k (length d))
 
 -- what stands in a buffer once its part from a to e is filled with bytes of a block
 pub part_filled : (m : Words) (f a e k : ℕ) (o part : List ℕ) → e ≡ a + k → e ≤ length o → part ≡ bytes m f (length (take (e - a) (drop a o))) → put_mid a (e - a) o part ≡ paste o a (bytes m f k) k

@@ -1,4 +1,3 @@
 -- Lemmas: a value that is copied block by block, and what the head of a record tells of a value.
-pub mod Made
 pub mod Copies
 pub mod Found

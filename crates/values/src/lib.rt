@@ -7,6 +7,7 @@ ghost use Rattle.layout.specs.Sizes.{followers, size as size_in};
 ghost use Rattle.layout.specs.Fields.{bytes as bytes_of};
 ghost use Rattle.layout.specs.Sound.{leads, sound};
 ghost use Rattle.layout.specs.Records.{data_at, data_from};
+ghost use Rattle.layout.specs.Plans.{sizes_of};
 ghost use Rattle.layout.specs.Reads.{words_of};
 ghost use Rattle.values.specs.Copying.{recorded, Copies, CopiesData};
 
@@ -19,7 +20,6 @@ use layout::sizes::{
 };
 use records::reading::read_block;
 use records::store::Store;
-use std::array;
 
 /// Why nothing was copied.
 #[derive(Clone, Copy, PartialEq, Eq, Debug)]
@@ -43,19 +43,15 @@ impl From<FlashFault> for CopyFault {
     }
 }
 
-// The bytes of a block.
-fn block_bytes(block: &BlockWords) -> [u8; 64]
-    ensures { result ≡ bytes_of (words_of block.now) 0 64 }
-{
-    array::from_fn(|k| block.byte(k as u8))
-}
-
 // Fills a buffer with the bytes of a block from byte `from` on.
 fn copy_bytes(block: &BlockWords, from: usize, out: &mut [u8])
     requires { from + length out.old ≤ 64 }
     ensures { out.new ≡ bytes_of (words_of block.now) from (length out.old) }
 {
-    out.copy_from_slice(&block_bytes(block)[from..from + out.len()]);
+    // By index, byte by byte: an array of all 64 bytes costs more than a short record, and after `iter_mut` a proof knows nothing of the buffer.
+    for i in 0..out.len() {
+        out[i] = block.byte((from + i) as u8);
+    }
 }
 
 // Copies the data of the following blocks of a sound record, from block `from` on, into a buffer from byte 41 on.
@@ -92,11 +88,11 @@ fn copy_record<F: Flash>(
     size: u16,
     out: &mut [u8],
 ) -> Result<(), FlashFault>
-    requires planned { (size ≡ size_in store.now.plan.now number.0) × (size ≤ 1024) }
+    requires planned { (size ≡ size_in (sizes_of store.now.plan.now) number.0) × (size ≤ 1024) }
     requires room { size ≤ length out.old }
-    requires sound { let s = F.model.meaning store.now.flash.now in sound s.count s.word store.now.plan.now number.0 first.0 ≡ true }
+    requires sound { let s = F.model.meaning store.now.flash.now in sound s.count s.word (sizes_of store.now.plan.now) number.0 first.0 ≡ true }
     requires power { (F.model.meaning store.now.flash.now).power ≡ true }
-    ensures { MatchResult result (λ _. out.new ≡ data_at (F.model.meaning store.now.flash.now).word store.now.plan.now number.0 first.0 ++ drop size out.old) (λ _. ⊥) }
+    ensures { MatchResult result (λ _. out.new ≡ data_at (F.model.meaning store.now.flash.now).word (sizes_of store.now.plan.now) number.0 first.0 ++ drop size out.old) (λ _. ⊥) }
 {
     let block = read_block(store.flash, first)?;
     let part = &mut out[..first_share_of(size) as usize];
@@ -112,7 +108,7 @@ pub fn copy_record_at<F: Flash>(
     first: BlockNumber,
     out: &mut [u8],
 ) -> Result<(), CopyFault>
-    ensures { let s = F.model.meaning store.now.flash.now in CopiesData F.model.kind s (recorded s.count s.word store.now.plan.now number.0 first.0) (size_in store.now.plan.now number.0) out.old result out.new }
+    ensures { let s = F.model.meaning store.now.flash.now in CopiesData F.model.kind s (recorded s.count s.word (sizes_of store.now.plan.now) number.0 first.0) (size_in (sizes_of store.now.plan.now) number.0) out.old result out.new }
 {
     if !store.is_sound(number, first)? {
         return Err(CopyFault::NoValue);
@@ -133,7 +129,7 @@ pub fn copy_value<F: Flash>(
     number: DataNumber,
     out: &mut [u8],
 ) -> Result<(), CopyFault>
-    ensures { Copies F.model.kind (F.model.meaning store.now.flash.now) store.now.plan.now number.0 out.old result out.new }
+    ensures { Copies F.model.kind (F.model.meaning store.now.flash.now) (sizes_of store.now.plan.now) number.0 out.old result out.new }
 {
     let Some(head) = store.current(number)? else {
         return Err(CopyFault::NoValue);

@@ -17,7 +17,7 @@ abbrev four : ℕ → List ℕ
 four x = x % 256 ∷ x / 256 % 256 ∷ x / 65536 % 256 ∷ x / 16777216 % 256 ∷ []
 
 -- as much as there is
-pub take_most : (t k : ℕ) (xs : List ℕ) → t ≡ min (length xs) k → take t xs ≡ take k xs
+take_most : (t k : ℕ) (xs : List ℕ) → t ≡ min (length xs) k → take t xs ≡ take k xs
 take_most t k xs h = ap (λ (i : ℕ). take i xs) (omega arith) ∙ take_min k xs
 
 pub part_most : (t f k i : ℕ) (xs : List ℕ) → f ≡ min (length xs) i → t ≡ min (length xs) (f + k) - f → take t (drop f xs) ≡ take k (drop i xs)
@@ -33,10 +33,10 @@ part_most t f k i xs e h = go (cases_lt (length xs) i)
         ap (λ (x : ℕ). take t (drop x xs)) a ∙ take_most t k (drop i xs) (omega (arith, length-drop i xs))
 
 -- a first block, part by part
-pub first_parts : (z n s next k : ℕ) (d : List ℕ) → k ≡ code_of n s
-    → type_number (first_type z) ∷ (two next ++ (two n ++ (four s ++ (two k ++ take (first_share z) d)))) ≡ first_bytes_by_size z n s next d
+pub first_parts : (z n s next k t : ℕ) (d : List ℕ) → k ≡ code_of n s → t ≡ min (length d) (first_share z)
+    → type_number (first_type z) ∷ (two next ++ (two n ++ (four s ++ (two k ++ take t d)))) ≡ first_bytes_by_size z n s next d
 unfolding first_bytes_by_size
-first_parts z n s next k d h = rw h (simp div-div-eq-div-mul)
+first_parts z n s next k t d h e = rw (h, take_most t (first_share z) d e) (simp div-div-eq-div-mul)
 
 -- and a following one
 pub follow_parts : (z j next : ℕ) (d : List ℕ) → type_number Following ∷ (two next ++ take (share z j) (drop (41 + 53 * j) d)) ≡ follow_bytes z j next d

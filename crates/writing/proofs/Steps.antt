@@ -9,7 +9,7 @@ use Rattle.flash.specs.Rules.{Model, Obeys}
 use Rattle.flash.specs.Lists.{Tried}
 use Rattle.layout.specs.Sizes.{data_words}
 use Rattle.layout.proofs.Loops.{left_suc, left_none}
-use Rattle.writing.specs.Listed.{listed}
+use Rattle.writing.specs.Listed.{numbers_of}
 use Rattle.writing.specs.Writing.{word_of, follow_bytes, programs, next_of, follow_commands}
 use Rattle.writing.proofs.Joined.{one_then, one_stop, tried_then, tried_stop}
 
@@ -43,7 +43,7 @@ module _ {F : Type 0} (model : Model F) (b : ℕ) (l l' : List ℕ) (n n' : ℕ)
   programs_stop f h = tried_stop model (programs b l' n') ys x z f (subst (λ (cs : List Command). Tried model cs x (Err f) z) same_programs h)
 
 -- the block after which the chain goes on from the first block
-pub next_first : (first : BlockNumber) (bs : List BlockNumber) → (get_or bs 0 first).0 ≡ next_of first.0 (listed bs)
+pub next_first : (first : BlockNumber) (bs : List BlockNumber) → (get_or bs 0 first).0 ≡ next_of first.0 (numbers_of bs)
 next_first first [] = refl
 next_first first (b ∷ bs) = refl
 
@@ -51,7 +51,7 @@ next_first first (b ∷ bs) = refl
 module _ (z : ℕ) (first : BlockNumber) (d : List ℕ) (bs : List BlockNumber) (ys : List Command) where
   -- those of the blocks cs, which begin at place j
   abbrev from : ℕ → List BlockNumber → List Command
-  from j cs = follow_commands z first.0 d j (listed cs) ++ ys
+  from j cs = follow_commands z first.0 d j (numbers_of cs) ++ ys
 
   abbrev pub left : ℕ → List Command
   left j = from j (drop j bs)
@@ -63,13 +63,13 @@ module _ (z : ℕ) (first : BlockNumber) (d : List ℕ) (bs : List BlockNumber) 
   left_more : (j : ℕ) (next : BlockNumber) → j < length bs → next ≡ get_or bs (j + 1) first → left j ≡ block j next ++ left (j + 1)
   left_more j next h e =
       let cs : List BlockNumber = drop (j + 1) bs in
-      let q : next.0 ≡ next_of first.0 (listed cs) =
+      let q : next.0 ≡ next_of first.0 (numbers_of cs) =
       ap (λ (b : BlockNumber). b.0) (e ∙ ap (λ (k : ℕ). get_or bs k first) (omega arith) ∙ sym (get_or-drop (j + 1) bs 0 first)) ∙ next_first first cs in
       let b : ℕ = (get_or bs j (record { 0 = 0 })).0 in
       at_drop_more (from j) bs j (record { 0 = 0 }) h
       ∙ rw q
-      (append_assoc (programs b (follow_bytes z j (next_of first.0 (listed cs)) d) (data_words z j)) (follow_commands z first.0 d (suc j) (listed cs)) ys
-      ∙ ap (λ (k : ℕ). programs b (follow_bytes z j (next_of first.0 (listed cs)) d) (data_words z j) ++ from k cs) (omega arith))
+      (append_assoc (programs b (follow_bytes z j (next_of first.0 (numbers_of cs)) d) (data_words z j)) (follow_commands z first.0 d (suc j) (numbers_of cs)) ys
+      ∙ ap (λ (k : ℕ). programs b (follow_bytes z j (next_of first.0 (numbers_of cs)) d) (data_words z j) ++ from k cs) (omega arith))
 
   module _ {F : Type 0} (model : Model F) (j : ℕ) (x y : F) where
     pub blocks_more : (next : BlockNumber) (v : F) (u : Unit {0}) (r : Result (Unit {0}) FlashFault) → j < length bs → next ≡ get_or bs (j + 1) first

@@ -19,7 +19,7 @@ pub fn write_record<F: Flash>(
     record: &NewRecord,
     data: &[u8],
 ) -> Result<(), FlashFault>
-    ensures { let r = «record».now in Tried F.model (record_on r.size r.number.0 r.serial «data».now (listed r.blocks.items)) flash.old result flash.new }
+    ensures { let r = «record».now in Tried F.model (record_on r.size r.number.0 r.serial «data».now (listed r.blocks)) flash.old result flash.new }
 {
     let Some((first, following)) = record.blocks.as_slice().split_first() else {
         return Ok(());

@@ -7,6 +7,7 @@ ghost use Rattle.writing.specs.Law.{Counts, SoundWhenDone};
 
 use layout::sizes::{data_word_count, follower_count, head_word_count};
 
+pub mod blocks;
 pub mod bytes;
 pub mod giving;
 pub mod record;

@@ -1,6 +1,7 @@
 //! The group of every block, from the current records and the states of all blocks.
 ghost use Rattle.std.specs.Prelude.{◌≡◌, ℕ, ◌<◌};
 ghost use Rattle.layout.specs.Sizes.{numbers};
+ghost use Rattle.layout.specs.Plans.{sizes_of};
 ghost use Rattle.survey.specs.Sets.{member};
 ghost use Rattle.choice.specs.Tables.{first_in, grouped, Grouped};
 
@@ -29,7 +30,7 @@ fn group_of(state: Option<BlockState>, first: bool) -> Option<Group>
 
 // The first blocks of all current records of the plan's numbers. Heads and plan apart, as where the newest is found.
 fn first_blocks(heads: &Heads, plan: &Plan) -> BlockSet
-    ensures { (b : ℕ) → b < 256 → member result.marks b ≡ first_in heads.now (numbers plan.now) b }
+    ensures { (b : ℕ) → b < 256 → member result.marks b ≡ first_in heads.now (numbers (sizes_of plan.now)) b }
 {
     let mut firsts = BlockSet::new();
     for n in 0..plan.count() {
@@ -42,7 +43,7 @@ fn first_blocks(heads: &Heads, plan: &Plan) -> BlockSet
 
 /// The group of every block of a flash that was looked over.
 pub fn group_blocks(seen: &Overview, plan: &Plan) -> Groups
-    ensures { Grouped seen.now plan.now result }
+    ensures { Grouped seen.now (sizes_of plan.now) result }
 {
     let firsts = first_blocks(&seen.heads, plan);
     Groups {

@@ -1,5 +1,6 @@
 //! The current records and the state of each block, from one pass over the blocks and the blocks of current records.
 ghost use Rattle.std.specs.Prelude.{◌≡◌};
+ghost use Rattle.layout.specs.Plans.{sizes_of};
 ghost use Rattle.survey.specs.Entries.{settled as settled_so, Surveys};
 ghost use Rattle.survey.specs.Overviews.{Overviews};
 
@@ -24,7 +25,7 @@ fn settled(standing: Option<BlockState>, in_use: bool) -> Option<BlockState>
 
 /// The current records of a flash and the state of each of its blocks. Each block is read once, apart from the walks along chains.
 pub fn look_over<F: Flash>(store: &Store<F>) -> Result<Overview, FlashFault>
-    ensures { Overviews F.model.kind (F.model.meaning store.now.flash.now) store.now.plan.now result }
+    ensures { Overviews F.model.kind (F.model.meaning store.now.flash.now) (sizes_of store.now.plan.now) result }
 {
     ask_power(store.flash)?;
     let found = store.scan()?;
@@ -42,7 +43,7 @@ pub fn look_over<F: Flash>(store: &Store<F>) -> Result<Overview, FlashFault>
 
 /// The state of every block of a flash. Each block is read once, apart from the walks along chains.
 pub fn survey<F: Flash>(store: &Store<F>) -> Result<Survey, FlashFault>
-    ensures { Surveys F.model.kind (F.model.meaning store.now.flash.now) store.now.plan.now result }
+    ensures { Surveys F.model.kind (F.model.meaning store.now.flash.now) (sizes_of store.now.plan.now) result }
 {
     Ok(look_over(store)?.survey)
 }

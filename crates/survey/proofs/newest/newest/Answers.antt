@@ -6,6 +6,7 @@ use Rattle.std.proofs.iter.Yields.{nat_range_steps}
 use Rattle.std.proofs.lemmas.Iterator.{YieldsList-from_range}
 use Rattle.std.proofs.lemmas.List.Sums.{fold-append}
 use Rattle.layout.specs.Sizes.{numbers}
+use Rattle.layout.specs.Plans.{sizes_of}
 use Rattle.records.specs.declared.head.Head.{Head}
 use Rattle.records.specs.Heads.{head_in}
 use Rattle.survey.specs.Newest.{newer_head}
@@ -15,7 +16,7 @@ use Rattle.survey.proofs.newest.newest.Goals as goal
 pub returns : goal.returns
 returns c =
     let t = c.args.heads.now in
-    let n = numbers c.args.plan.now in
+    let n = numbers (sizes_of c.args.plan.now) in
     let step : Option Head → ℕ → Option Head = λ o k. newer_head o (head_in t k) in
     fold_over nat_range_steps (λ x. x) _ (λ (ns : List ℕ) (o : Option Head). o ≡ fold step None ns) _
     (λ ns o k r f' h e. (

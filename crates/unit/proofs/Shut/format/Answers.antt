@@ -2,6 +2,7 @@
 use Rattle.std.proofs.Common.{ℕ, List, Ok, Err, refl, subst}
 use Rattle.std.proofs.lemmas.Result.{err_from_is_err_and}
 use Rattle.flash.specs.Lists.{Through, Cut}
+use Rattle.layout.specs.Plans.{sizes_of}
 use Rattle.choice.specs.Choosing.{format_order}
 use Rattle.decision.specs.declared.fault.UnitFault.TheVariants.{Flash}
 use Rattle.decision.specs.Decisions.{Performs}
@@ -17,7 +18,7 @@ returns-in_err-clear_groups g c =
     let x = c.args.self.now.flash in
     let y = c.clear_groups.new.flash in
     let s = m.meaning x in
-    let p = c.args.self.now.plan in
+    let p = sizes_of c.args.self.now.plan in
     let call = to_format p c.args.code c.args.bar.now in
     let decided = c.in_ok-groups.ensures in
     let f = c.in_err-clear_groups.field-0.0 in
@@ -34,7 +35,7 @@ returns g c =
     let x = c.args.self.now.flash in
     let y = c.clear_groups.new.flash in
     let s = m.meaning x in
-    let p = c.args.self.now.plan in
+    let p = sizes_of c.args.self.now.plan in
     let call = to_format p c.args.code c.args.bar.now in
     let decided = c.in_ok-groups.ensures in
     let cs = clearings s.word (format_order s.count s.word p) in

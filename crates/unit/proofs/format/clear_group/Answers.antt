@@ -20,7 +20,7 @@ returns-in_err-clear_in_group g c =
     let cut : Cut m (clearings (m.meaning c.loop-b.flash).word (filter q (range_with_len b (n - b)))) c.loop-b.flash f y =
     block_cut m q b n c.loop-b-test.true c.loop-b.flash y f c.in_err-clear_in_group.ensures in
     let e = err_from_is_err_and c.from_residual.result c.from_residual.ensures.1 in
-    rw (e.1, e.2) (subst (λ (i : ℕ). Cut m (clearings (m.meaning x).word (of_group c.args.groups.now c.args.group i)) x f y) c.block_count-b-end.ensures (c.loop-b.invariant.2 (Err f) y cut))
+    rw (e.1, e.2) (subst (λ (i : ℕ). Cut m (clearings (m.meaning x).word (of_group c.args.groups.now c.args.group i)) x f y) c.block_count-b-end.ensures.answer (c.loop-b.invariant.2 (Err f) y cut))
 
 pub loop-b-preserved : goal.loop-b-preserved
 loop-b-preserved g c =

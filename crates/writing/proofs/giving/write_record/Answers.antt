@@ -4,7 +4,7 @@ use Rattle.std.proofs.lemmas.Result.{err_from_is_err_and}
 use Rattle.flash.specs.declared.BlockNumber.{BlockNumber}
 use Rattle.flash.specs.declared.fault.FlashFault.{FlashFault}
 use Rattle.flash.specs.Lists.{Tried}
-use Rattle.writing.specs.Listed.{listed}
+use Rattle.writing.specs.Listed.{blocks_of, numbers_of}
 use Rattle.writing.specs.Writing.{first_commands_by_size, record_commands_by_size, record_on}
 use Rattle.writing.proofs.Steps.{next_first, blocks_more, blocks_stop, blocks_end}
 use Rattle.writing.proofs.giving.write_record.Goals as goal
@@ -15,8 +15,8 @@ loop-j-init g c r y h =
     let x = c.args.record.now in
     let first = c.in-Some.first.now in
     let following = c.in-Some.following.now in
-    let e : x.blocks.items ≡ first ∷ following = search rules in
-    subst (λ (bs : List BlockNumber). Tried g.F.Flash.model (record_on x.size x.number.0 x.serial c.args.data.now (listed bs)) c.args.flash.now r y) (sym e) h
+    let e : blocks_of x.blocks ≡ first ∷ following = search rules in
+    subst (λ (bs : List BlockNumber). Tried g.F.Flash.model (record_on x.size x.number.0 x.serial c.args.data.now (numbers_of bs)) c.args.flash.now r y) (sym e) h
 
 pub returns-in_err-write_following : goal.returns-in_err-write_following
 returns-in_err-write_following g c =

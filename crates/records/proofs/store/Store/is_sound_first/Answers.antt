@@ -5,11 +5,11 @@ use Rattle.records.proofs.Chains.{unplanned_unsound, unchecked_unsound, checked_
 use Rattle.records.proofs.store.Store.is_sound_first.Goals as goal
 
 pub returns-in_default-clause-answer : goal.returns-in_default-clause-answer
-returns-in_default-clause-answer g c = (c.in_ok-ask_power.ensures.0, unplanned_unsound _ _ _ _ _ c.in_default.ensures.answer)
+returns-in_default-clause-answer g c = (c.in_ok-ask_power.ensures.answer.0, unplanned_unsound _ _ _ _ _ c.in_default.ensures.answer)
 
 pub returns-then-not-is_first_block-clause-answer : goal.returns-then-not-is_first_block-clause-answer
 returns-then-not-is_first_block-clause-answer g c =
-    (c.in_ok-ask_power.ensures.0, unchecked_unsound _ _ _ _ _ _ c.requires.read c.if-not-is_first_block.ensures)
+    (c.in_ok-ask_power.ensures.answer.0, unchecked_unsound _ _ _ _ _ _ c.requires.read c.if-not-is_first_block.ensures)
 
 pub returns-clause-answer : goal.returns-clause-answer
 returns-clause-answer g c =

@@ -1,7 +1,7 @@
 -- Each of the four bytes.
 use Rattle.std.proofs.Common.{◌≡◌, ◌+◌, ◌*◌, get_or, arith, rules}
 use Rattle.writing.specs.Writing.{word_of}
-use Rattle.writing.proofs.bytes.word.Goals as goal
+use Rattle.writing.proofs.bytes.filling.word.Goals as goal
 
 pub returns : goal.returns
 unfolding word_of

@@ -1,0 +1,2 @@
+-- What a lent flash is.
+pub mod Lending

@@ -299,6 +299,8 @@ mod tests {
         let fault = fault(Cause::Block, 3, 2, 5);
         check_eq(part.program(BlockNumber(2), 5, VALUE), fault)?;
         check_eq(image.look(BlockNumber(2), 5), Ok(Some(VALUE)))?;
+        check_eq(Part::<Image>::KIND, 3)?;
+        check_eq(Lent::<Image>::KIND, 1)?;
         Ok(())
     }
 
